@@ -10,7 +10,7 @@ use Rattle.aso_outline.specs.Ranks.{named, rank, needs_itself}
 use Rattle.aso_outline.specs.Rules.{broken, has_counts, is_name, is_atom, key_bits}
 use Rattle.aso_spec.specs.Cells.{summed, stored}
 use Rattle.aso_spec.specs.Named.{ordinals_named, names_a_cell, key_named, is_axis}
-use Rattle.aso_spec.specs.Grid.{grid_text}
+use Rattle.aso_spec.specs.Grid.{grid_text, grid_head, end_line}
 use Rattle.aso_spec.specs.Sheet.{Member, Sheet, sheet_lines, sheet_text}
 use Rattle.aso_spec.specs.Drafts.{draft_of}
 use Rattle.aso_spec.specs.Plain.{is_plain}
@@ -50,7 +50,7 @@ unfolding cells_of summed draft_of key_named ordinals_named named seats holds le
 row_value = refl
 
 row_reply : sheet_reply row ≡ codes "GRID 1 commit 0 rows 2 columns 3\n\tJan\tFeb\tYear\nNY\t10.5000\t-0.2500\t10.2500\nMarket\t12.5000\t-0.2500\t12.2500\nEND 1\n"
-unfolding sheet_reply grid_text cells_of summed draft_of key_named ordinals_named named seats holds leaf_names stored digits
+unfolding sheet_reply grid_text grid_head end_line cells_of summed draft_of key_named ordinals_named named seats holds leaf_names stored digits
 row_reply = refl
 
 -- three levels, and a member back at the first
