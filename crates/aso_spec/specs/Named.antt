@@ -1,12 +1,12 @@
 -- What lists of names stand for in an outline: a cell, or an axis.
-use Rattle.std.specs.Prelude.{ℕ, zero, Bool, false, ◌&&◌, List, map, length, Option, None, nat_lt, nat_le, ◌==◌, if◌then◌else◌, slice_get, slice_index, unwrap_or}
+use Rattle.std.specs.Prelude.{ℕ, zero, Bool, false, ◌&&◌, List, map, length, Option, Some, None, nat_lt, nat_le, ◌==◌, if◌then◌else◌, slice_get, slice_index, unwrap_or}
 use Rattle.std.specs.Option.{option_map, option_and_then}
-use Rattle.std.specs.List.{filter_map, list_all, position}
+use Rattle.std.specs.List.{filter, filter_map, list_all, range_with_len}
 use Rattle.aso_tree.specs.Trees.{places_of}
 use Rattle.aso_outline.specs.declared.draft.Draft.{Draft}
 use Rattle.aso_outline.specs.declared.seat.Seat.{Seat}
 use Rattle.aso_outline.specs.declared.seat.Seat.TheVariants.{Whole, Inner, Carried}
-use Rattle.aso_outline.specs.Members.{Name, dim_at, dim_of, data_leaves, is_data_leaf}
+use Rattle.aso_outline.specs.Members.{Name, dim_of, is_data_leaf}
 use Rattle.aso_outline.specs.Ranks.{named, is_of_dim}
 
 -- a test of the member of a name
@@ -15,9 +15,12 @@ names_one test o name = unwrap_or (option_map test (named o name)) false
 
 -- ---- cells
 
--- the ordinal of a data leaf in a dimension
+-- the ordinal of the data leaf at a place of a dimension's first hierarchy: how many data leaves stand before it
+abbrev pub leaf_ordinal : Draft → ℕ → ℕ → Option ℕ
+leaf_ordinal o d i = if is_data_leaf o (Inner d 0 i) then Some (length (filter (λ j. is_data_leaf o (Inner d 0 j)) (range_with_len 0 i))) else None
+
 abbrev pub ordinal_in : Draft → ℕ → Seat → Option ℕ
-ordinal_in o d (Inner e zero i) = if d == e then position (λ j. j == i) (data_leaves (dim_at o d)) else None
+ordinal_in o d (Inner e zero i) = if d == e then leaf_ordinal o e i else None
 ordinal_in o d s = None
 
 -- the ordinals of the data leaves of a dimension that some names name
