@@ -107,12 +107,12 @@ preorder_past o s past = ap (λ (m : Option DraftMember). unwrap_or (option_map 
 pub childless_past : (ms : List DraftMember) (k : ℕ) → length ms ≤ k → is_leaf (parents_of ms) k ≡ false
 childless_past ms k past = past_is_no_leaf (parents_of ms) k (omega (arith, past, one_parent_each ms))
 
-
 -- where no member breaks preorder, the trees are trees
 pub trees_of : (o : Draft) → IsSmall o → position (breaks_preorder o) (seats o) ≡ None → HasTrees o
 trees_of o small none = record {
   tree = each;
-  short = length_of }
+  short = length_of;
+}
   where
     at : (s : Seat) → place_of s < length (tree_of o s) → is_misplaced (parents_of (tree_of o s)) (place_of s) ≡ false
     at s low = sym (preorder_at o s low) ∙ none_at o (breaks_preorder o) none s low

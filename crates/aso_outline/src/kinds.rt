@@ -56,7 +56,8 @@ fn is_skip(draft: &Draft, seat: Seat) -> bool
 fn is_stored_kind(draft: &Draft, seat: Seat) -> bool
     ensures { result ≡ is_stored_kind draft.now seat }
 {
-    !has_formula(draft, seat) && (is_plus(draft, seat) || is_skip(draft, seat) && is_under_label(draft, seat))
+    !has_formula(draft, seat)
+        && (is_plus(draft, seat) || is_skip(draft, seat) && is_under_label(draft, seat))
 }
 
 fn is_alternate(seat: Seat) -> bool

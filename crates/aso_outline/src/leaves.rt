@@ -56,7 +56,14 @@ pub fn has_data_leaf(draft: &Draft, dim: u32) -> bool
     requires { HasTrees draft.now }
     ensures { result ≡ has_data_leaf (dim_at draft.now dim) }
 {
-    any_data_place(sound_tree(draft, Seat::Inner { dim, hier: 0, at: 0 }))
+    any_data_place(sound_tree(
+        draft,
+        Seat::Inner {
+            dim,
+            hier: 0,
+            at: 0,
+        },
+    ))
 }
 
 /// How many data leaves the dimension has.
@@ -64,7 +71,14 @@ fn data_leaf_count(draft: &Draft, dim: u32) -> u32
     requires { HasTrees draft.now }
     ensures { result ≡ length (data_leaves (dim_at draft.now dim)) }
 {
-    data_places(sound_tree(draft, Seat::Inner { dim, hier: 0, at: 0 }))
+    data_places(sound_tree(
+        draft,
+        Seat::Inner {
+            dim,
+            hier: 0,
+            at: 0,
+        },
+    ))
 }
 
 /// The power of two of this exponent is less than the count.

@@ -14,7 +14,10 @@ fn is_plain_member(member: &DraftMember) -> bool
 fn is_plain_tree(hier: &DraftHier) -> bool
     ensures { result ≡ is_plain_tree hier.now }
 {
-    hier.members.items().iter().all(|member| is_plain_member(member))
+    hier.members
+        .items()
+        .iter()
+        .all(|member| is_plain_member(member))
 }
 
 fn is_plain_dim(dim: &DraftDim) -> bool

@@ -27,8 +27,26 @@ pub fn resolve(draft: &Draft, seat: Seat) -> Seat
     ensures { result ≡ resolve draft.now seat }
 {
     match seat {
-        Seat::Whole { dim } => Seat::Inner { dim, hier: 0, at: past_labels(sound_tree(draft, Seat::Inner { dim, hier: 0, at: 0 }), 0) },
-        Seat::Inner { dim, hier, at } => Seat::Inner { dim, hier, at: past_labels(sound_tree(draft, seat), at) },
+        Seat::Whole { dim } => Seat::Inner {
+            dim,
+            hier: 0,
+            at: past_labels(
+                sound_tree(
+                    draft,
+                    Seat::Inner {
+                        dim,
+                        hier: 0,
+                        at: 0,
+                    },
+                ),
+                0,
+            ),
+        },
+        Seat::Inner { dim, hier, at } => Seat::Inner {
+            dim,
+            hier,
+            at: past_labels(sound_tree(draft, seat), at),
+        },
         Seat::Carried { attr, at } => Seat::Carried { attr, at },
     }
 }

@@ -54,7 +54,11 @@ pub fn breaks_roots(draft: &Draft, seat: Seat) -> bool
 {
     match seat {
         Seat::Whole { dim } => !has_data_leaf(draft, dim),
-        Seat::Inner { dim, hier: 0, at: 0 } => breaks_first_root(draft, dim, seat),
+        Seat::Inner {
+            dim,
+            hier: 0,
+            at: 0,
+        } => breaks_first_root(draft, dim, seat),
         Seat::Inner { .. } => false,
         Seat::Carried { attr, at: 0 } => !same_name(name_at(draft, seat), attr_name(draft, attr)),
         Seat::Carried { .. } => false,

@@ -60,9 +60,11 @@ module _ (parents : List ℕ) (tree : IsTree parents) (top : ℕ) where
   pub childless : (next : ℕ) → next ≡ top + 1 → top < length parents → (next < length parents → slice_index parents next ≡ top → ⊥) → is_leaf parents top ≡ true
   childless next is low none =
       let here : EndsAt next = record {
-        low = omega (arith, is); fits = omega (arith, is, low);
+        low = omega (arith, is);
+        fits = omega (arith, is, low);
         below = λ k lo hi. only_self k lo (omega (arith, hi, is));
-        stop = λ within. opposite _ (λ h. none within (next_is_child next is h)) } in
+        stop = λ within. opposite _ (λ h. none within (next_is_child next is h));
+      } in
       leaf_of_span next here ∙ eq-eqb _ _ (omega (arith, is))
 
   pub has_child : (next : ℕ) → next ≡ top + 1 → next < length parents → slice_index parents next ≡ top → is_leaf parents top ≡ false

@@ -6,4 +6,5 @@ use Rattle.aso_outline.proofs.leaves.bits_for.Given as goal
 abbrev pub invariant-loop-bit : goal.invariant-loop-bit
 invariant-loop-bit l = record {
   value : l.bits ≡ length (filter (λ b. nat_lt (2 ^ b) l.count) (range_with_len 0 l.bit));
-  bound : l.bits ≤ l.bit }
+  bound : l.bits ≤ l.bit;
+}

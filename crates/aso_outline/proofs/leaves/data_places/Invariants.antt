@@ -6,4 +6,5 @@ use Rattle.aso_outline.proofs.leaves.data_places.Given as goal
 abbrev pub invariant-loop-place : goal.invariant-loop-place
 invariant-loop-place l = record {
   value : l.count ≡ length (filter (is_data_place l.members) (range_with_len 0 l.place));
-  bound : l.count ≤ l.place }
+  bound : l.count ≤ l.place;
+}

@@ -13,7 +13,8 @@ loop-dim-preserved c =
     let more : c.from-bits.result ≡ f c.loop-dim.dim = c.from-bits.ensures ∙ (c.bits_for.ensures.value ∙ ap bits_for c.data_leaf_count.ensures) in
     record {
       value = ap (λ n. n + c.from-bits.result) c.loop-dim.invariant.value ∙ (ap (λ n. sum (map f (range_with_len 0 c.loop-dim.dim)) + n) more ∙ sym (sum_push f c.loop-dim.dim));
-      bound = omega (arith, c.from-bits.ensures, c.bits_for.ensures.bound, c.loop-dim.invariant.bound) }
+      bound = omega (arith, c.from-bits.ensures, c.bits_for.ensures.bound, c.loop-dim.invariant.bound);
+    }
 
 pub returns-then-bits-le128 : goal.returns-then-bits-le128
 unfolding key_bits

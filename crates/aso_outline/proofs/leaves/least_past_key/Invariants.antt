@@ -8,4 +8,5 @@ use Rattle.aso_outline.proofs.leaves.least_past_key.Given as goal
 abbrev pub invariant-loop-dim : goal.invariant-loop-dim
 invariant-loop-dim l = record {
   value : l.bits ≡ sum (map (λ d. bits_for (length (data_leaves (dim_at l.draft d)))) (range_with_len 0 l.dim));
-  bound : l.bits ≤ 32 * l.dim }
+  bound : l.bits ≤ 32 * l.dim;
+}
