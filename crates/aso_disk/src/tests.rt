@@ -17,13 +17,24 @@ fn put_twice<K: Sink>(sink: &mut K, bytes: &[u8]) -> Result<(), Trouble> {
 #[test]
 fn a_library_finds_its_texts_and_fails_where_it_is_told_to(rt: HostRuntime) -> Result<(), Fail> {
     let alloc = rt.alloc();
-    let names = vec![in alloc; String::from_str(alloc, "a")?, String::from_str(alloc, "a")?, String::from_str(alloc, "c")?]?;
-    let texts = vec![in alloc; Vec::from_slice(alloc, b"first")?, Vec::from_slice(alloc, b"second")?]?;
+    let names = vec![in alloc;
+        String::from_str(alloc, "a")?,
+        String::from_str(alloc, "a")?,
+        String::from_str(alloc, "c")?,
+    ]?;
+    let texts = vec![in alloc;
+        Vec::from_slice(alloc, b"first")?,
+        Vec::from_slice(alloc, b"second")?,
+    ]?;
     let mut library = MemLibrary::new(alloc, names, texts, vec![in alloc; 4]?);
     let mut lent = &mut library;
     assert_eq!(rt; text_len(&mut lent, "a"), Ok(Some(5)));
     assert_eq!(rt; text_len(&mut lent, "b"), Ok(None));
-    assert_eq!(rt; text_len(&mut library, "c"), Ok(None), "a name without a text");
+    assert_eq!(rt;
+        text_len(&mut library, "c"),
+        Ok(None),
+        "a name without a text"
+    );
     assert_eq!(rt; text_len(&mut library, "A"), Ok(None));
     assert_eq!(rt; text_len(&mut library, "a"), Err(Trouble::Failed));
     assert_eq!(rt; text_len(&mut library, "a"), Ok(Some(5)));

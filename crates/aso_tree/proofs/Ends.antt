@@ -5,7 +5,7 @@ use Rattle.std.specs.List.{range_with_len}
 use Rattle.std.proofs.lemmas.Bool.{ne_eqb, eqb-true}
 use Rattle.std.proofs.lemmas.List.FromFn.{length-range_with_len}
 use Rattle.aso_tree.specs.Trees.{is_under, under, is_leaf, IsTree}
-use Rattle.aso_tree.proofs.Preorder.{under_span, under_self, under_up, under_cases, under_le, opposite}
+use Rattle.aso_tree.proofs.Preorder.{under_span, under_self, under_up, under_cases, under_le, opposite, filter_none}
 
 pub either : (b : Bool) → (b ≡ true) ⊎ (b ≡ false)
 either true = inl refl
@@ -60,9 +60,11 @@ module _ (parents : List ℕ) (tree : IsTree parents) (top : ℕ) where
   pub childless : (next : ℕ) → next ≡ top + 1 → top < length parents → (next < length parents → slice_index parents next ≡ top → ⊥) → is_leaf parents top ≡ true
   childless next is low none =
       let here : EndsAt next = record {
-        low = omega (arith, is); fits = omega (arith, is, low);
+        low = omega (arith, is);
+        fits = omega (arith, is, low);
         below = λ k lo hi. only_self k lo (omega (arith, hi, is));
-        stop = λ within. opposite _ (λ h. none within (next_is_child next is h)) } in
+        stop = λ within. opposite _ (λ h. none within (next_is_child next is h));
+      } in
       leaf_of_span next here ∙ eq-eqb _ _ (omega (arith, is))
 
   pub has_child : (next : ℕ) → next ≡ top + 1 → next < length parents → slice_index parents next ≡ top → is_leaf parents top ≡ false
@@ -76,3 +78,9 @@ module _ (parents : List ℕ) (tree : IsTree parents) (top : ℕ) where
       (λ (same : eqb (slice_index parents next) top ≡ true). has_child next is low (eqb-true _ _ same) ∙ sym (ap not same))
       (λ (differs : eqb (slice_index parents next) top ≡ false). childless next is (omega (arith, is, low)) (λ _ same. true≢false (sym (eq-eqb _ _ same) ∙ differs)) ∙ sym (ap not differs))
       (either (eqb (slice_index parents next) top))
+
+-- past the last node there is none
+pub past_is_no_leaf : (parents : List ℕ) (i : ℕ) → length parents ≤ i → is_leaf parents i ≡ false
+past_is_no_leaf parents i past =
+    ap (λ (xs : List ℕ). eqb (length xs) 1)
+    (filter_none (is_under parents i) (length parents) 0 (λ k lo hi. opposite _ (λ h. let le : i ≤ k = under_le k parents i k (omega arith) h in omega (arith, le, hi, past))))

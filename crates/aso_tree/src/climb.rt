@@ -23,7 +23,11 @@ pub fn depth<N: Node>(nodes: &[N], node: u32) -> u32
     ensures bound { result ≤ node }
 {
     let parent = N::parent_at(nodes, node);
-    if parent < node { depth(nodes, parent) + 1 } else { 0 }
+    if parent < node {
+        depth(nodes, parent) + 1
+    } else {
+        0
+    }
 }
 
 /// The node is the first and has no parent, or its parent is the node before it or lies above that one.
@@ -32,7 +36,11 @@ pub fn stands<N: Node>(nodes: &[N], node: u32) -> bool
     ensures { result ≡ stands (N.parents_in nodes.now) node }
 {
     let parent = N::parent_at(nodes, node);
-    if node == 0 { parent == u32::MAX } else { is_under(nodes, parent, node - 1) }
+    if node == 0 {
+        parent == u32::MAX
+    } else {
+        is_under(nodes, parent, node - 1)
+    }
 }
 
 /// The node is out of preorder, or more than 31 below its root.
