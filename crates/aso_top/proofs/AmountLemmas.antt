@@ -1,7 +1,7 @@
 -- An amount text has only digits, a sign and a point.
 use Rattle.std.proofs.Common.{◌≡◌, ℕ, suc, ◌+◌, ◌<◌, ◌||◌, Bool, true, false, eqb, List, [], ◌∷◌, length, take, drop, refl, Result, Ok, Err, ℤ, is_ok, cond, arith}
 use Rattle.std.specs.Prelude.{nat_lt, ◌==◌, if◌then◌else◌}
-use Rattle.std.specs.List.{list_all, prefix_len}
+use Rattle.std.specs.List.{list_all}
 use Rattle.std.specs.Str.{IsUtf8}
 use Rattle.std.proofs.lemmas.Str.{IsUtf8-from_ascii}
 use Rattle.std.proofs.lemmas.List.Folds.{list_all-append, length-prefix_len}
@@ -9,7 +9,7 @@ use Rattle.std.proofs.lemmas.Bool.Decides.{nat_tests}
 use Rattle.std.proofs.lemmas.Grind.{common_steps}
 use Rattle.aso_top.proofs.TestLemmas.{ascii_by}
 use Rattle.aso_num.specs.declared.amount.NumberFault.{NumberFault}
-use Rattle.aso_num.specs.AmountText.{is_digit, digits_len, sign_len, is_negative, point_len, whole_and_rest, parts_of, judged, amount_of}
+use Rattle.aso_num.specs.AmountText.{is_digit, digits_len, sign_len, is_negative, point_len, whole_and_rest, amount_of}
 
 abbrev pub is_amount_byte : ℕ → Bool
 is_amount_byte b = is_digit b || (eqb b 43 || (eqb b 45 || eqb b 46))

@@ -1,6 +1,6 @@
 -- The lines of an outline by dimension, and the table of the last line at each depth.
 use Rattle.std.proofs.Common.{◌≡◌, ℕ, suc, ◌+◌, ◌-◌, ◌<◌, ◌≤◌, ◌&&◌, Bool, true, false, not, eqb, leb, List, [], ◌∷◌, ◌++◌, map, length, take, drop, get_or, set, Option, Some, None, unwrap_or, cond, codes, append_assoc, refl, sym, ap, ◌∙◌, arith, add-one}
-use Rattle.std.specs.Prelude.{if◌then◌else◌, slice_get, slice_index}
+use Rattle.std.specs.Prelude.{if◌then◌else◌, slice_index}
 use Rattle.std.specs.Option.{option_map}
 use Rattle.std.specs.List.{All, list_all, count_by, prefix_len, filter, last_or, range_with_len, take-map, drop-map}
 use Rattle.std.specs.Str.{IsAscii}

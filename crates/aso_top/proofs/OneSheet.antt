@@ -1,12 +1,11 @@
 -- A plain sheet is what is read of its text, so a text spells at most one.
-use Rattle.std.proofs.Common.{◌≡◌, ℕ, zero, suc, ◌<◌, ◌≤◌, ◌&&◌, Bool, true, false, not, eqb, leb, ltb, List, [], ◌∷◌, ◌++◌, map, length, Result, Ok, Err, ℤ, is_ok, is_none, replicate, codes, refl, sym, ap, ◌∙◌, arith, true≢false}
-use Rattle.std.specs.List.{list_all, count_by, prefix_len, join_with_byte, AllByRecursion}
+use Rattle.std.proofs.Common.{◌≡◌, ℕ, zero, suc, ◌<◌, ◌&&◌, Bool, true, false, not, eqb, leb, ltb, List, [], ◌∷◌, ◌++◌, map, length, Result, Ok, Err, ℤ, is_ok, is_none, replicate, codes, refl, sym, ap, ◌∙◌, arith, true≢false}
+use Rattle.std.specs.List.{list_all, count_by, join_with_byte, AllByRecursion}
 use Rattle.std.proofs.lemmas.List.Elements.{All-nil, All-cons}
 use Rattle.std.proofs.lemmas.List.Folds.{list_all-append}
 use Rattle.std.proofs.lemmas.Bool.Decides.{Decides-eqb, nat_tests}
 use Rattle.aso_num.specs.declared.amount.NumberFault.{NumberFault}
 use Rattle.aso_num.specs.AmountText.{amount_of, parts_of}
-use Rattle.aso_outline.specs.declared.draft.Draft.{Draft}
 use Rattle.aso_outline.specs.declared.seat.Seat.{Seat}
 use Rattle.aso_outline.specs.Members.{Name, is_data_leaf}
 use Rattle.aso_outline.specs.Ranks.{is_of_dim}

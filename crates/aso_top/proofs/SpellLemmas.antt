@@ -1,9 +1,8 @@
 -- Fields that are joined, and lines that are ended.
-use Rattle.std.proofs.Common.{◌≡◌, ℕ, List, [], ◌∷◌, ◌++◌, refl, sym, ap, ◌∙◌, append_assoc}
+use Rattle.std.proofs.Common.{◌≡◌, ℕ, List, [], ◌∷◌, ◌++◌, refl, ap, ◌∙◌, append_assoc}
 use Rattle.std.specs.List.{flat_map, join_with_byte}
-use Rattle.std.proofs.lemmas.List.{append-nil}
 use Rattle.std.proofs.lemmas.Grind.{flat_map-append}
-use Rattle.aso_spec.specs.Sheet.{Member, CellLine, Sheet, member_line, cell_line, axis_line, sheet_lines, sheet_text}
+use Rattle.aso_spec.specs.Sheet.{Sheet, member_line, cell_line, axis_line, sheet_lines, sheet_text}
 use Rattle.std.proofs.Common.{map, codes}
 use Rattle.aso_top.specs.Spelling.{ended}
 

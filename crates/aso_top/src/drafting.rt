@@ -25,6 +25,7 @@ fn text_of(alloc: Global, bytes: &[u8]) -> Result<Text, NoMemory>
     Ok(Text::of(String::from_str(alloc, text)?))
 }
 
+// A plain member that is added to its parent.
 fn draft_member(alloc: Global, parent: u32, name: &[u8]) -> Result<DraftMember, NoMemory>
     requires { IsAscii name.now }
     ensures { IfOk result (λ m. m ≡ draft_member parent name.now) }
@@ -46,9 +47,14 @@ fn parent_of(last: &[u32; 8], depth: usize) -> u32
     requires { depth ≤ 7 }
     ensures { result ≡ parent_by last.now depth }
 {
-    if depth == 0 { u32::MAX } else { last[depth - 1] }
+    if depth == 0 {
+        u32::MAX
+    } else {
+        last[depth - 1]
+    }
 }
 
+// The members of a dimension's lines, in their order.
 fn tree_of(alloc: Global, lines: &[RawMember]) -> Result<Vec<DraftMember>, NoMemory>
     requires few { length lines.now < 2 ^ 32 }
     requires lines { All IsLine lines.now }
@@ -64,6 +70,7 @@ fn tree_of(alloc: Global, lines: &[RawMember]) -> Result<Vec<DraftMember>, NoMem
     Ok(members)
 }
 
+// A base dimension with one stored hierarchy.
 fn dim_of(alloc: Global, lines: &[RawMember]) -> Result<DraftDim, NoMemory>
     requires some { 0 < length lines.now }
     requires few { length lines.now < 2 ^ 32 }

@@ -8,5 +8,4 @@ ghost use Rattle.aso_spec.specs.Plain.{is_plain};
 pub fn spells_one_sheet()
     ensures read { (s : Sheet) → is_plain s ≡ true → read_sheet (sheet_text s) ≡ s }
     ensures alone { (s t : Sheet) → is_plain s ≡ true → is_plain t ≡ true → sheet_text s ≡ sheet_text t → s ≡ t }
-{
-}
+{}

@@ -10,9 +10,13 @@ use aso_num::{Amount, parse_amount};
 use std::str;
 
 const MOST_MEMBERS: usize = 64;
+
 const MOST_DIMS: usize = 8;
+
 const MOST_DEPTH: usize = 7;
+
 const MOST_NAME_BYTES: usize = 80;
+
 const MOST_WHOLE_DIGITS: usize = 9;
 
 // A letter, a digit or an underscore.

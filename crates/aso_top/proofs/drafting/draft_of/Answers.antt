@@ -1,5 +1,4 @@
 use Rattle.std.proofs.Common.{◌≡◌, ◌+◌, ◌-◌, ◌<◌, List, length, take, drop, map, ap, sym, ◌∙◌, arith, length-drop}
-use Rattle.std.specs.List.{All}
 use Rattle.std.proofs.lemmas.List.{take_all, drop-drop}
 use Rattle.std.proofs.lemmas.List.Elements.{All-take, All-drop}
 use Rattle.aso_top.specs.declared.reading.RawMember.{RawMember}
@@ -25,7 +24,7 @@ loop-at-preserved c =
     let some : 0 < length rest = omega (arith, length-drop at lines) in
     record {
       dims = dims_more c.push.new.self.items c.loop-at.dims.items c.in_ok-dim_of.field-0 lines rest (take r view) (drop (at + r) lines) r c.in_ok-push.ensures.items c.in_ok-dim_of.ensures some
-        (rw whole at c.dim_len-count.ensures.value) (ap (λ (x : List RawMember). take r x) whole) (sym (drop-drop r at lines)) c.loop-at.invariant.dims;
+          (rw whole at c.dim_len-count.ensures.value) (ap (λ (x : List RawMember). take r x) whole) (sym (drop-drop r at lines)) c.loop-at.invariant.dims;
       within = omega (arith, length-drop at lines, ap (λ (x : List RawMember). length x) whole);
     }
 

@@ -14,7 +14,7 @@ loop-i-preserved c =
     let inv = c.loop-i.invariant in
     record {
       members = tree_more c.push.new.self.items c.loop-i.members.items c.in_ok-draft_member.field-0 (member_of (map member lines)) i c.in_ok-push.ensures.items inv.members
-        (member_here lines i c.loop-i.last c.parent_of-parent.result c.in_ok-draft_member.field-0 lt line.0 inv.table c.parent_of-parent.ensures c.in_ok-draft_member.ensures);
+          (member_here lines i c.loop-i.last c.parent_of-parent.result c.in_ok-draft_member.field-0 lt line.0 inv.table c.parent_of-parent.ensures c.in_ok-draft_member.ensures);
       table = table_more (depths_of (map member lines)) c.loop-i.last i (get_or lines i blank).depth inv.depths line.0 (depth_here lines i lt) inv.table;
       depths = search (rules, length-set);
     }
