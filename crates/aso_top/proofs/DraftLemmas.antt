@@ -123,7 +123,7 @@ dims_split (x ∷ xs) front rest r some er ef eb =
 
 -- ---- plain lines
 
-small_name_byte : (b : ℕ) → is_name_byte b ≡ true → b < 128
+pub small_name_byte : (b : ℕ) → is_name_byte b ≡ true → b < 128
 small_name_byte b h = grind (arith, nat_tests)
 
 name_ascii : (name : List ℕ) → is_name name ≡ true → IsAscii name

@@ -139,7 +139,7 @@ axis_fields ms named names h =
     let parts = both (ltb 0 (length names) && leb (length names) 64) (list_all (names_one (is_of_dim (axis_dim o names)) o) names) h in
     (some_names (length names) (both (ltb 0 (length names)) (leb (length names) 64) parts.0).0, names_fields ms named (is_of_dim (axis_dim o names)) names parts.1)
 
-members_named : (ms : List Member) → are_plain_members ms ≡ true → AllByRecursion HasName ms
+pub members_named : (ms : List Member) → are_plain_members ms ≡ true → AllByRecursion HasName ms
 members_named ms h =
     let counts = leb (length ms) 64 && leb (count_by (λ (m : Member). eqb m.depth 0) ms) 8 in
     let names = list_all (λ (m : Member). is_name m.name) ms in

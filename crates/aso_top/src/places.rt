@@ -19,8 +19,8 @@ use aso_tree::is_under;
 use std::alloc::Global;
 use std::str;
 
-// A name as a text, if it is one.
-fn text_of(name: &[u8]) -> Option<&str>
+/// A name as a text, if it is one.
+pub fn text_of(name: &[u8]) -> Option<&str>
     ensures found { IfSome result (λ text. text.now ≡ name.now) }
     ensures none { IfNone result (IsUtf8 name.now → ⊥) }
 {
@@ -37,8 +37,8 @@ fn seat_at(table: &[Seat], number: u32) -> Option<Seat>
     table.get(number as usize).copied()
 }
 
-// The member of a name that is a text.
-fn seat_of_text(outline: &Outline, table: &[Seat], name: &str) -> Option<Seat>
+/// The member of a name that is a text.
+pub fn seat_of_text(outline: &Outline, table: &[Seat], name: &str) -> Option<Seat>
     requires { table.now ≡ seats outline.now }
     ensures { result ≡ named outline.now name.now }
 {
