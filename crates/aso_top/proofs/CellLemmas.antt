@@ -1,20 +1,19 @@
 -- The cells that names stand for.
-use Rattle.std.specs.Prelude.{slice_get, unwrap_or, is_some, is_none, is_ok, slice_index, if◌then◌else◌}
+use Rattle.std.specs.Prelude.{slice_get, unwrap_or, is_some, is_none, slice_index}
 use Rattle.std.specs.Borrow.{Bor}
 use Rattle.std.specs.Option.{option_map, option_and_then}
 use Rattle.std.specs.List.{cons_option, filter, filter_map, list_all, range_with_len}
-use Rattle.std.proofs.Common.{◌≡◌, ◌∙◌, ◌≢◌, ℕ, zero, suc, ◌+◌, ◌<◌, ◌≤◌, ◌&&◌, ◌||◌, ◌⊎◌, ⊎_elim, Bool, true, false, cond, eqb, List, [], ◌∷◌, ◌++◌, map, take, drop, set, length, get_or, Option, Some, None, refl, sym, ap, arith, rules, add-one, eq-eqb, true≢false, length-append, length-set, get_or-set_same, get_or-set_other, append-nil}
+use Rattle.std.proofs.Common.{◌≡◌, ◌∙◌, ℕ, zero, suc, ◌+◌, ◌<◌, ◌&&◌, ⊎_elim, Bool, true, false, cond, eqb, List, [], ◌∷◌, ◌++◌, map, take, drop, set, length, get_or, Option, Some, None, refl, sym, ap, arith, eq-eqb, true≢false, length-set, get_or-set_same, get_or-set_other, append-nil}
 use Rattle.std.proofs.lemmas.List.{map-append, length-map, drop_more, take-append-drop}
 use Rattle.std.proofs.lemmas.List.Elements.{filter_map-append}
 use Rattle.std.proofs.lemmas.List.Folds.{list_all-append, list_all_at}
 use Rattle.std.proofs.lemmas.List.FromFn.{fill_by_all, get_or-map-range_with_len, get_or-range_with_len, length-map-range_with_len, length-range_with_len}
 use Rattle.std.proofs.lemmas.Bool.{cases_eq, eqb-true}
-use Rattle.std.proofs.lemmas.Option.{slice_get-get_or, none-some, same_Some}
+use Rattle.std.proofs.lemmas.Option.{slice_get-get_or, none-some}
 use Rattle.aso_tree.specs.Trees.{places_of}
 use Rattle.aso_outline.proofs.AtSeats.{within_dims}
 use Rattle.aso_outline.specs.declared.draft.Draft.{Draft}
 use Rattle.aso_outline.specs.declared.draft.DraftMember.{DraftMember}
-use Rattle.aso_outline.specs.declared.seat.Seat.{Seat}
 use Rattle.aso_outline.specs.declared.seat.Seat.TheVariants.{Inner}
 use Rattle.aso_outline.specs.Members.{Name, dim_at, is_childless, is_data_leaf, tree}
 use Rattle.aso_outline.specs.Ranks.{named}
@@ -117,8 +116,8 @@ module _ (o : Draft) (front : List Name) (name : Name) (back : List Name) where
     crowded y taken long =
         let p : ℕ → Bool = λ d. eqb (length (ordinals_named o (front ++ name ∷ back) d)) 1 in
         let two : ordinals_named o (front ++ name ∷ back) dim ≡ y ∷ ordinal ∷ ordinals_named o back dim =
-            ordinals_more dim ∙ (ap (λ (xs : List ℕ). xs ++ (held_in (option_and_then (ordinal_in o dim) (named o name)) ++ ordinals_named o back dim)) (sym (before dim low) ∙ ap held_in taken)
-            ∙ ap (λ (x : Option ℕ). y ∷ (held_in x ++ ordinals_named o back dim)) here) in
+        ordinals_more dim ∙ (ap (λ (xs : List ℕ). xs ++ (held_in (option_and_then (ordinal_in o dim) (named o name)) ++ ordinals_named o back dim)) (sym (before dim low) ∙ ap held_in taken)
+        ∙ ap (λ (x : Option ℕ). y ∷ (held_in x ++ ordinals_named o back dim)) here) in
         let not_one : p dim ≡ false = ap (λ (xs : List ℕ). eqb (length xs) 1) two ∙ unequal (length (y ∷ ordinal ∷ ordinals_named o back dim)) 1 (λ (e : length (y ∷ ordinal ∷ ordinals_named o back dim) ≡ 1). omega (arith, e)) in
         let there : get_or (range_with_len 0 (length o.dims)) dim 0 ≡ dim = get_or-range_with_len 0 (length o.dims) dim 0 (omega (arith, low, long)) ∙ omega arith in
         no_right _ _ (no_right _ _ (list_all_at p (range_with_len 0 (length o.dims)) dim 0 (omega (arith, low, long, length-range_with_len 0 (length o.dims))) (ap p there ∙ not_one)))
@@ -181,11 +180,12 @@ module _ (o : Draft) (names : List Name) (slots : List (Option ℕ)) (long : len
   pub is_key : (key : List ℕ) → slots ≡ map (λ (x : ℕ). Some x) key → length names ≡ length o.dims → list_all (names_one (is_data_leaf o) o) names ≡ true → (names_a_cell o names ≡ true) × (key ≡ key_named o names)
   unfolding names_a_cell key_named
   is_key key is each all =
-      let key_long : length key ≡ length o.dims = omega (arith, ap length is, length-map key (λ (x : ℕ). Some x), long) in
-      (both _ _ (eq-eqb (length names) (length o.dims) each) (both _ _ all (counted ∙ (ap (list_all is_some) is ∙ all_some key)))
-      , fill_by_all (λ d. slice_index (ordinals_named o names d) 0) key (length o.dims) 0 key_long
-        (λ k low. let within : k < length key = omega (arith, low, key_long) in
-          sym (ap (λ (xs : List ℕ). slice_index xs 0) (sym (are k (omega (arith, low, long))) ∙ (ap (λ (xs : List (Option ℕ)). held_in (get_or xs k None)) is ∙ ap held_in (key_at key k within))))))
+      let key_long : length key ≡ length o.dims = omega (arith, ap length is, length-map key (λ (x : ℕ). Some x), long) in (
+        both _ _ (eq-eqb (length names) (length o.dims) each) (both _ _ all (counted ∙ (ap (list_all is_some) is ∙ all_some key))),
+        fill_by_all (λ d. slice_index (ordinals_named o names d) 0) key (length o.dims) 0 key_long
+            (λ k low. let within : k < length key = omega (arith, low, key_long) in
+            sym (ap (λ (xs : List ℕ). slice_index xs 0) (sym (are k (omega (arith, low, long))) ∙ (ap (λ (xs : List (Option ℕ)). held_in (get_or xs k None)) is ∙ ap held_in (key_at key k within))))),
+      )
 
 pub no_cell_of_length : (o : Draft) (names : List Name) → (length names ≡ length o.dims → ⊥) → names_a_cell o names ≡ false
 unfolding names_a_cell

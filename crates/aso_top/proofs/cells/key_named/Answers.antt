@@ -3,7 +3,7 @@ use Rattle.std.specs.Borrow.{Bor}
 use Rattle.std.proofs.lemmas.List.{length-map}
 use Rattle.std.proofs.lemmas.Result.{IfOk-weaker}
 use Rattle.aso_outline.specs.declared.draft.Draft.{Draft}
-use Rattle.aso_top.specs.Cells.{AreSlotsOf, IsKeyIn, IsKeyOf}
+use Rattle.aso_top.specs.Cells.{IsKeyIn, IsKeyOf}
 use Rattle.aso_top.specs.Raw.{texts}
 use Rattle.aso_top.proofs.CellLemmas.{no_cell_of_length, key_if}
 use Rattle.aso_top.proofs.cells.key_named.Goals as goal
