@@ -33,7 +33,7 @@ within_list f [] i k low = absurd (omega (arith, low))
 within_list f (x ∷ xs) zero k low = omega arith
 within_list f (x ∷ xs) (suc i) k low = let less : i < length xs = within_list f xs i k low in omega (arith, less)
 
-within_dims : (xs : List DraftDim) (d h k : ℕ) → k < length (tree (unwrap_or (slice_get xs d) no_dim) h) → d < length xs
+pub within_dims : (xs : List DraftDim) (d h k : ℕ) → k < length (tree (unwrap_or (slice_get xs d) no_dim) h) → d < length xs
 within_dims [] d h k low = absurd (omega (arith, low))
 within_dims (x ∷ xs) zero h k low = omega arith
 within_dims (x ∷ xs) (suc d) h k low = let less : d < length xs = within_dims xs d h k low in omega (arith, less)
