@@ -1,11 +1,10 @@
 -- The first child follows its parent, and the next child follows what lies below the one before.
 use Rattle.std.specs.Prelude.{slice_index, nat_lt}
-use Rattle.std.specs.List.{position}
-use Rattle.std.proofs.Common.{◌≡◌, ◌∙◌, ℕ, zero, suc, ◌+◌, ◌-◌, ◌<◌, ◌≤◌, ◌^◌, ◌&&◌, Bool, true, false, eqb, ltb, List, length, Option, Some, None, refl, sym, ap, arith, ⊎_elim, ◌⊎◌, inl, inr, true≢false, eq-eqb}
+use Rattle.std.proofs.Common.{◌≡◌, ◌∙◌, ℕ, zero, suc, ◌+◌, ◌-◌, ◌<◌, ◌≤◌, ◌^◌, ◌&&◌, Bool, true, false, eqb, List, length, Some, None, refl, sym, ap, arith, ⊎_elim, ◌⊎◌, inl, inr, true≢false, eq-eqb}
 use Rattle.std.proofs.lemmas.Bool.{ne_eqb, eqb-true, lt-ltb, le-ltb}
-use Rattle.aso_tree.specs.Trees.{is_under, stands, no_parent, first_child, next_child, places_of, IsTree}
-use Rattle.aso_tree.proofs.Preorder.{under_self, under_up, under_cases, under_le, under_trans, under_stops, stands_of, opposite}
-use Rattle.aso_tree.proofs.Ends.{EndsAt, child_is_under, next_is_child}
+use Rattle.aso_tree.specs.Trees.{is_under, first_child, next_child, IsTree}
+use Rattle.aso_tree.proofs.Preorder.{under_self, under_up, under_cases, under_le, under_stops, stands_of, opposite}
+use Rattle.aso_tree.proofs.Ends.{EndsAt, next_is_child}
 use Rattle.aso_tree.proofs.Firsts.{first_is, none_is, first_in_range, none_in_range}
 
 module _ (parents : List ℕ) (tree : IsTree parents) (short : length parents < 2 ^ 32) where

@@ -1,15 +1,15 @@
 -- The class of a node: the highest at or above it whose height is at most the level.
-use Rattle.std.specs.Prelude.{slice_index, nat_le, is_some, unwrap_or}
+use Rattle.std.specs.Prelude.{slice_index, nat_le, is_some}
 use Rattle.std.specs.Option.{option_map}
 use Rattle.std.specs.List.{filter, range_with_len, last_or, position, list_any}
-use Rattle.std.proofs.Common.{◌≡◌, ◌∙◌, ℕ, zero, suc, ◌+◌, ◌-◌, ◌<◌, ◌≤◌, Bool, true, false, cond, eqb, leb, ltb, List, [], ◌∷◌, ◌++◌, length, Option, Some, None, refl, sym, ap, arith, ⊎_elim, ◌⊎◌, true≢false, eq-eqb}
+use Rattle.std.proofs.Common.{◌≡◌, ◌∙◌, ℕ, zero, suc, ◌+◌, ◌-◌, ◌<◌, ◌≤◌, Bool, true, false, cond, eqb, ltb, List, [], ◌∷◌, ◌++◌, length, Option, Some, None, refl, sym, ap, arith, ⊎_elim, ◌⊎◌, eq-eqb}
 use Rattle.std.proofs.lemmas.Bool.{lt-ltb, le-ltb, le-leb, lt-leb, ne_eqb, ltb-true}
 use Rattle.std.proofs.lemmas.List.Elements.{filter-append}
-use Rattle.aso_tree.specs.Trees.{is_under, height, path, highest, is_at, classes, class_of, places_of, IsTree}
+use Rattle.aso_tree.specs.Trees.{height, path, highest, is_at, classes, class_of, places_of}
 use Rattle.aso_tree.specs.Levels.{is_class}
-use Rattle.aso_tree.proofs.Paths.{path_step, range_push}
+use Rattle.aso_tree.proofs.Paths.{path_step}
 use Rattle.aso_tree.proofs.Ends.{either}
-use Rattle.aso_tree.proofs.Heights.{height_up, here_or_later}
+use Rattle.aso_tree.proofs.Heights.{height_up}
 use Rattle.aso_tree.proofs.Positions.{position_append, position_cons, some_if_any, first_of}
 
 none_of : (o : Option ℕ) → is_some o ≡ false → o ≡ None

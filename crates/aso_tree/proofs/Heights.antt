@@ -1,13 +1,12 @@
 -- Heights rise towards the root, and a leaf has height 0.
-use Rattle.std.proofs.Common.{◌≡◌, ◌∙◌, ℕ, zero, suc, ◌+◌, ◌-◌, ◌<◌, ◌≤◌, max, Bool, true, false, List, [], ◌∷◌, length, map, refl, sym, ap, arith, ⊎_elim, ◌⊎◌, true≢false}
+use Rattle.std.proofs.Common.{◌≡◌, ◌∙◌, ℕ, zero, suc, ◌+◌, ◌-◌, ◌<◌, ◌≤◌, max, Bool, true, false, List, [], ◌∷◌, length, map, sym, ap, arith, ⊎_elim, ◌⊎◌, true≢false}
 use Rattle.std.specs.Prelude.{slice_index}
 use Rattle.std.specs.List.{filter, range_with_len, fold}
 use Rattle.std.proofs.lemmas.Bool.{eqb-true}
-use Rattle.std.proofs.lemmas.List.FromFn.{length-range_with_len}
 use Rattle.aso_tree.specs.Trees.{is_under, under, depth, height, is_leaf, greatest, IsTree}
 use Rattle.aso_tree.proofs.Paths.{depth_up}
 use Rattle.aso_tree.proofs.Preorder.{under_self, under_up, under_trans}
-use Rattle.aso_tree.proofs.Ends.{either, ends, span_of, leaf_of_span, EndsAt}
+use Rattle.aso_tree.proofs.Ends.{either, ends, span_of, leaf_of_span}
 
 base_le : (xs : List ℕ) (b : ℕ) → b ≤ fold max b xs
 base_le [] b = omega arith

@@ -1,10 +1,10 @@
 -- The leaves below a node have ordinals without a gap.
 use Rattle.std.specs.Prelude.{slice_range}
 use Rattle.std.specs.List.{filter, range_with_len}
-use Rattle.std.proofs.Common.{◌≡◌, ◌∙◌, ℕ, suc, ◌+◌, ◌-◌, ◌<◌, ◌≤◌, List, ◌++◌, length, take, drop, refl, sym, ap, arith, length-append}
+use Rattle.std.proofs.Common.{◌≡◌, ◌∙◌, ℕ, ◌+◌, ◌-◌, ◌≤◌, List, ◌++◌, length, take, drop, sym, ap, arith, length-append}
 use Rattle.std.proofs.lemmas.List.Elements.{filter-append}
 use Rattle.std.proofs.Math.Seq.{take-append_seam, drop-append_seam}
-use Rattle.aso_tree.specs.Trees.{leaves, leaves_before, is_leaf, under, places_of, IsTree}
+use Rattle.aso_tree.specs.Trees.{leaves, leaves_before, is_leaf, under, IsTree}
 use Rattle.aso_tree.proofs.Ends.{EndsAt, span_of}
 use Rattle.aso_tree.proofs.Classes.{range_split}
 

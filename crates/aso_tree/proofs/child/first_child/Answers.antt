@@ -1,4 +1,4 @@
-use Rattle.std.proofs.Common.{◌≡◌, ◌<◌, ◌+◌, length, arith, sym}
+use Rattle.std.proofs.Common.{◌+◌, arith, sym}
 use Rattle.aso_tree.proofs.Children.{is_first_child, no_first_child}
 use Rattle.aso_tree.proofs.child.first_child.Goals as goal
 

@@ -1,4 +1,4 @@
-use Rattle.std.proofs.Common.{◌≡◌, ◌∙◌, ◌<◌, ◌+◌, length, arith, ap, sym, subst, refl}
+use Rattle.std.proofs.Common.{◌∙◌, length, arith, ap, sym, subst, refl}
 use Rattle.aso_tree.specs.Trees.{next_child, under}
 use Rattle.aso_tree.proofs.Children.{is_next_child, no_next_child, root_is_last, rises}
 use Rattle.aso_tree.proofs.Ends.{ends_by_count, EndsAt}

@@ -1,4 +1,4 @@
-use Rattle.std.proofs.Common.{◌<◌, ◌+◌, arith}
+use Rattle.std.proofs.Common.{◌+◌, arith}
 use Rattle.aso_tree.specs.declared.level.Level.{Level}
 use Rattle.aso_tree.specs.Trees.{class_count, height}
 use Rattle.aso_tree.proofs.Rows.{in_rows, at_row}

@@ -1,4 +1,4 @@
-use Rattle.std.proofs.Common.{◌≡◌, ◌∙◌, ◌<◌, ◌≤◌, ℕ, sym, ap, arith, Option}
+use Rattle.std.proofs.Common.{◌∙◌, ◌<◌, ◌≤◌, ℕ, sym, ap, arith, Option}
 use Rattle.std.specs.Prelude.{slice_index, unwrap_or}
 use Rattle.aso_tree.specs.Trees.{height, class_number}
 use Rattle.aso_tree.proofs.Rows.{in_list, at_list}

@@ -1,4 +1,4 @@
-use Rattle.std.proofs.Common.{◌≡◌, ◌∙◌, ◌<◌, ◌≤◌, ◌+◌, ℕ, Option, Some, None, true, length, map, get_or, ap, sym, refl, arith}
+use Rattle.std.proofs.Common.{◌≡◌, ◌∙◌, ◌≤◌, ◌+◌, ℕ, Option, Some, None, true, length, map, ap, sym, refl, arith}
 use Rattle.std.specs.Prelude.{is_some, unwrap_or}
 use Rattle.aso_tree.specs.declared.level.Level.{Level}
 use Rattle.aso_tree.specs.Trees.{class_number, class_of, height, places_of}

@@ -1,4 +1,4 @@
-use Rattle.std.proofs.Common.{◌≡◌, ◌∙◌, ◌<◌, ◌≤◌, sym, ap, arith, ltb}
+use Rattle.std.proofs.Common.{◌∙◌, ◌<◌, ◌≤◌, sym, ap, arith, ltb}
 use Rattle.std.specs.Prelude.{slice_index}
 use Rattle.aso_tree.specs.Trees.{height}
 use Rattle.aso_tree.proofs.Classes.{no_class_high, class_by_parent, class_top}

@@ -1,4 +1,4 @@
-use Rattle.std.proofs.Common.{◌≡◌, ◌∙◌, ap, map, sym, arith}
+use Rattle.std.proofs.Common.{◌∙◌, ap, map}
 use Rattle.aso_tree.specs.declared.level.Level.{Level}
 use Rattle.aso_tree.specs.Trees.{class_count, class_number, places_of}
 use Rattle.aso_tree.proofs.Rows.{row_push}

@@ -1,4 +1,4 @@
-use Rattle.std.proofs.Common.{◌≡◌, ◌∙◌, ◌<◌, ◌≤◌, ◌+◌, length, arith, ap, refl}
+use Rattle.std.proofs.Common.{◌≡◌, ◌≤◌, ◌+◌, length, arith, ap, refl}
 use Rattle.std.specs.Prelude.{slice_index}
 use Rattle.aso_tree.specs.Trees.{under}
 use Rattle.aso_tree.proofs.Ends.{ends_by_count}

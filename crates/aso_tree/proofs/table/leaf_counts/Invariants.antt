@@ -1,4 +1,4 @@
-use Rattle.std.proofs.Common.{◌≡◌, ◌≤◌, ◌+◌, map, length}
+use Rattle.std.proofs.Common.{◌≡◌, ◌≤◌, ◌+◌, map}
 use Rattle.std.specs.List.{range_with_len}
 use Rattle.aso_tree.specs.Trees.{leaves_before}
 use Rattle.aso_tree.proofs.table.leaf_counts.Given as goal

@@ -1,4 +1,4 @@
-use Rattle.std.proofs.Common.{◌≡◌, ◌∙◌, ◌<◌, ◌≤◌, ◌+◌, length, arith, ap, subst, sym, refl}
+use Rattle.std.proofs.Common.{◌∙◌, ◌≤◌, length, arith, ap, subst, sym, refl}
 use Rattle.std.specs.Prelude.{slice_range}
 use Rattle.aso_tree.specs.Trees.{leaves, leaves_before, under}
 use Rattle.aso_tree.proofs.Ends.{ends_by_count, EndsAt}
