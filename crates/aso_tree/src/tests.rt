@@ -43,11 +43,43 @@ fn the_first_fault(rt: HostRuntime) -> Result<(), Fail> {
         };
         assert_eq!(rt; found, want);
     }
-    let mut chain = Vec::new(rt.alloc());
-    chain.push(u32::MAX)?;
-    for node in 0..40u32 {
-        chain.push(node)?;
-    }
+    // a chain of 34 nodes
+    let chain = [
+        u32::MAX,
+        0,
+        1,
+        2,
+        3,
+        4,
+        5,
+        6,
+        7,
+        8,
+        9,
+        10,
+        11,
+        12,
+        13,
+        14,
+        15,
+        16,
+        17,
+        18,
+        19,
+        20,
+        21,
+        22,
+        23,
+        24,
+        25,
+        26,
+        27,
+        28,
+        29,
+        30,
+        31,
+        32,
+    ];
     let Err(fault) = Forest::new(rt.alloc(), chain.as_slice()) else {
         return Err(Fail::from("too deep"));
     };
