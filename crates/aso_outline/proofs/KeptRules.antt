@@ -15,47 +15,26 @@ use Rattle.aso_outline.specs.Members.{tree, dim_at, no_dim, seats, data_leaves}
 use Rattle.aso_outline.specs.Rules.{Rule, first_broken, rules, broken, unless, is_plain, is_counted, has_counts, is_within, is_word, is_counted_dim, is_counted_attr, has_members, least, breaks_preorder, breaks_roots, has_data_leaf, is_alone, of_members, of_places, of_trees, of_later, least_repeat, breaks_names}
 use Rattle.aso_outline.specs.Kept.{HasCounts, HasDataLeaves}
 use Rattle.aso_outline.specs.Small.{HasTrees}
-use Rattle.aso_outline.proofs.AtSeats.{none_at, none_whole, trees_of}
-use Rattle.aso_outline.proofs.Smalls.{small}
-
-kept_if : (m : Option ℕ) (n : ℕ) (rest : Option (ℕ × ℕ)) → cond (is_some m) (option_map (λ (k : ℕ). (n, k)) m) rest ≡ None → (m ≡ None) × (rest ≡ None)
-kept_if None n rest h = (refl, h)
-kept_if (Some k) n rest h = cc
-
-kept_first : (r : Rule) (rs : List Rule) (o : Draft) → first_broken (r ∷ rs) o ≡ None → (r.1 o ≡ None) × (first_broken rs o ≡ None)
-kept_first r rs o h = kept_if (r.1 o) r.0 (first_broken rs o) h
-
-kept_unless : (b : Bool) → unless b ≡ None → b ≡ true
-kept_unless true h = refl
-kept_unless false h = cc
-
-and_left : (a b : Bool) → (a && b) ≡ true → a ≡ true
-and_left true b h = refl
-and_left false b h = absurd (true≢false (sym h))
-
-and_right : (a b : Bool) → (a && b) ≡ true → b ≡ true
-and_right true b h = h
-and_right false b h = absurd (true≢false (sym h))
+use Rattle.aso_outline.proofs.AtSeats.{none_at, none_whole}
+use Rattle.aso_outline.proofs.Kept.{kept_first, kept_if, plain_rule, counted_rule}
+use Rattle.aso_outline.proofs.Smalls.{and_left, and_right}
 
 module _ (o : Draft) (kept : broken o ≡ None) where
-  after_plain : first_broken ((1, λ o. unless (is_counted o)) ∷ of_members) o ≡ None
+  after_plain : first_broken (counted_rule ∷ of_members) o ≡ None
   unfolding broken
-  after_plain = (kept_first (0, λ o. unless (is_plain o)) ((1, λ o. unless (is_counted o)) ∷ of_members) o kept).1
+  after_plain = (kept_first plain_rule (counted_rule ∷ of_members) o kept).1
 
   pub counted : is_counted o ≡ true
-  counted = kept_unless (is_counted o) (kept_first (1, λ o. unless (is_counted o)) of_members o after_plain).0
+  counted = kept_if (is_counted o) (kept_first counted_rule of_members o after_plain).0
 
   after_counts : first_broken of_members o ≡ None
-  after_counts = (kept_first (1, λ o. unless (is_counted o)) of_members o after_plain).1
+  after_counts = (kept_first counted_rule of_members o after_plain).1
 
   after_names : first_broken ((3, least_repeat) ∷ of_places) o ≡ None
   after_names = (kept_first (2, least breaks_names) ((3, least_repeat) ∷ of_places) o after_counts).1
 
   after_repeat : first_broken of_places o ≡ None
   after_repeat = (kept_first (3, least_repeat) of_places o after_names).1
-
-  pub kept_preorder : position (breaks_preorder o) (seats o) ≡ None
-  kept_preorder = (kept_first (4, least breaks_preorder) of_trees o after_repeat).0
 
   after_preorder : first_broken of_trees o ≡ None
   after_preorder = (kept_first (4, least breaks_preorder) of_trees o after_repeat).1
@@ -65,9 +44,6 @@ module _ (o : Draft) (kept : broken o ≡ None) where
 
   pub counts_right : has_counts o ≡ true
   counts_right = and_left (has_counts o) _ counted
-
-  pub kept_trees : HasTrees o
-  kept_trees = trees_of o (small o counts_right) kept_preorder
 
   pub kept_counts : HasCounts o
   unfolding has_counts
