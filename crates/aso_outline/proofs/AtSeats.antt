@@ -2,7 +2,7 @@
 use Rattle.std.specs.Prelude.{slice_get, unwrap_or, is_some, nat_lt, if◌then◌else◌}
 use Rattle.std.specs.Option.{option_map}
 use Rattle.std.specs.List.{list_any, position, flat_map}
-use Rattle.std.proofs.Common.{◌≡◌, ◌∙◌, ℕ, zero, suc, ◌+◌, ◌<◌, ◌≤◌, ◌^◌, ◌&&◌, ◌||◌, ◌⊎◌, ⊎_elim, inl, inr, Bool, true, false, List, [], ◌∷◌, ◌++◌, length, map, Option, Some, None, refl, sym, ap, arith, true≢false, zero-add}
+use Rattle.std.proofs.Common.{◌≡◌, ◌∙◌, ℕ, zero, suc, ◌<◌, ◌≤◌, ◌^◌, ◌||◌, Bool, true, false, List, [], ◌∷◌, length, Option, None, refl, sym, ap, arith, true≢false}
 use Rattle.std.proofs.lemmas.List.Folds.{list_any-append}
 use Rattle.aso_tree.specs.Trees.{places_of, is_misplaced, is_leaf, IsTree}
 use Rattle.aso_tree.proofs.Ends.{past_is_no_leaf}
@@ -17,7 +17,7 @@ use Rattle.aso_outline.specs.Members.{tree, dim_at, attr_tree, no_dim, hier_seat
 use Rattle.aso_outline.specs.Parents.{one_parent_each}
 use Rattle.aso_outline.specs.Rules.{breaks_preorder}
 use Rattle.aso_outline.specs.Small.{IsSmall, HasTrees}
-use Rattle.aso_outline.proofs.Positions.{some_if_any, any_flat_map, any_map, none_of_range}
+use Rattle.aso_tree.proofs.Positions.{some_if_any, any_flat_map, any_map, none_of_range}
 
 or_left : (a b : Bool) → (a || b) ≡ false → a ≡ false
 or_left true b h = h

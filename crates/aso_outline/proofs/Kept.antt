@@ -14,17 +14,17 @@ by_answer : (n : ℕ) (r : Option ℕ) (rest : Option (ℕ × ℕ)) → (if is_s
 by_answer n None rest h = (refl, h)
 by_answer n (Some member) rest h = cc
 
-kept_first : (r : Rule) (rs : List Rule) (o : Draft) → first_broken (r ∷ rs) o ≡ None → (r.1 o ≡ None) × (first_broken rs o ≡ None)
+pub kept_first : (r : Rule) (rs : List Rule) (o : Draft) → first_broken (r ∷ rs) o ≡ None → (r.1 o ≡ None) × (first_broken rs o ≡ None)
 kept_first r rs o h = by_answer r.0 (r.1 o) (first_broken rs o) h
 
-kept_if : (b : Bool) → unless b ≡ None → b ≡ true
+pub kept_if : (b : Bool) → unless b ≡ None → b ≡ true
 kept_if true h = refl
 kept_if false h = cc
 
-abbrev plain_rule : Rule
+abbrev pub plain_rule : Rule
 plain_rule = (0, λ o. unless (is_plain o))
 
-abbrev counted_rule : Rule
+abbrev pub counted_rule : Rule
 counted_rule = (1, λ o. unless (is_counted o))
 
 pub is_small : (o : Draft) → broken o ≡ None → IsSmall o

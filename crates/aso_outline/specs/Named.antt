@@ -1,5 +1,5 @@
 -- What a table of names says of a draft.
-use Rattle.std.specs.Prelude.{◌≡◌, ℕ, List, Option, Some, None}
+use Rattle.std.specs.Prelude.{◌≡◌, ℕ, Option, Some, None}
 use Rattle.std.specs.HashMap.{get_by_text}
 use Rattle.std.specs.List.{position}
 use Rattle.aso_tree.specs.Trees.{places_of}

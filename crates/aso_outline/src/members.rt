@@ -37,7 +37,8 @@ impl Outline {
         ensures { result ≡ is_data_leaf self.now seat }
     {
         match seat {
-            Seat::Inner { hier: 0, .. } => is_childless(self.sound_draft(), seat) && is_without_formula(self.sound_draft(), seat),
+            Seat::Inner { hier: 0, .. } => is_childless(self.sound_draft(), seat)
+                && is_without_formula(self.sound_draft(), seat),
             _ => false,
         }
     }

@@ -1,5 +1,5 @@
 -- Where what lies below a node ends, and which nodes have no child.
-use Rattle.std.proofs.Common.{◌≡◌, ◌∙◌, ℕ, zero, suc, ◌+◌, ◌-◌, ◌<◌, ◌≤◌, Bool, true, false, not, eqb, List, length, refl, sym, ap, arith, ⊎_elim, ◌⊎◌, inl, inr, true≢false, eq-eqb}
+use Rattle.std.proofs.Common.{◌≡◌, ◌∙◌, ℕ, zero, suc, ◌+◌, ◌-◌, ◌<◌, ◌≤◌, Bool, true, false, not, eqb, List, length, refl, sym, ap, arith, ⊎_elim, ◌⊎◌, inl, inr, true≢false, eq-eqb, subst}
 use Rattle.std.specs.Prelude.{slice_index}
 use Rattle.std.specs.List.{range_with_len}
 use Rattle.std.proofs.lemmas.Bool.{ne_eqb, eqb-true}
@@ -43,7 +43,7 @@ module _ (parents : List ℕ) (tree : IsTree parents) (top : ℕ) where
   ends low = ends_from (length parents - (top + 1)) (top + 1) (omega (arith, low)) (omega arith) only_self
 
   -- a next node that lies below is a child
-  next_is_child : (next : ℕ) → next ≡ top + 1 → is_under parents top next ≡ true → slice_index parents next ≡ top
+  pub next_is_child : (next : ℕ) → next ≡ top + 1 → is_under parents top next ≡ true → slice_index parents next ≡ top
   next_is_child next is h =
       ⊎_elim
       (λ (same : next ≡ top). absurd (omega (arith, same, is)))
@@ -51,10 +51,10 @@ module _ (parents : List ℕ) (tree : IsTree parents) (top : ℕ) where
       let low : top ≤ slice_index parents next = under_le (slice_index parents next) parents top (slice_index parents next) (omega arith) up.1 in omega (arith, low, up.0, is))
       (under_cases parents top next h)
 
-  child_is_under : (next : ℕ) → next ≡ top + 1 → slice_index parents next ≡ top → is_under parents top next ≡ true
+  pub child_is_under : (next : ℕ) → next ≡ top + 1 → slice_index parents next ≡ top → is_under parents top next ≡ true
   child_is_under next is child = under_up parents top next (omega (arith, child, is)) (rw child (under_self parents top))
 
-  leaf_of_span : (end : ℕ) → EndsAt end → is_leaf parents top ≡ eqb (end - top) 1
+  pub leaf_of_span : (end : ℕ) → EndsAt end → is_leaf parents top ≡ eqb (end - top) 1
   leaf_of_span end e = ap (λ (xs : List ℕ). eqb (length xs) 1) (span_of end e) ∙ ap (λ k. eqb k 1) (length-range_with_len top (end - top))
 
   pub childless : (next : ℕ) → next ≡ top + 1 → top < length parents → (next < length parents → slice_index parents next ≡ top → ⊥) → is_leaf parents top ≡ true
@@ -84,3 +84,11 @@ pub past_is_no_leaf : (parents : List ℕ) (i : ℕ) → length parents ≤ i �
 past_is_no_leaf parents i past =
     ap (λ (xs : List ℕ). eqb (length xs) 1)
     (filter_none (is_under parents i) (length parents) 0 (λ k lo hi. opposite _ (λ h. let le : i ≤ k = under_le k parents i k (omega arith) h in omega (arith, le, hi, past))))
+
+-- what lies below ends where its count says
+pub ends_by_count : (parents : List ℕ) (tree : IsTree parents) (i count : ℕ) → i < length parents → count ≡ length (under parents i) → EndsAt parents tree i (i + count)
+ends_by_count parents tree i count low is =
+    let r = ends parents tree i low in
+    let long : length (under parents i) ≡ r.0 - i = ap length (span_of parents tree i r.0 r.2) ∙ length-range_with_len i (r.0 - i) in
+    let same : i + count ≡ r.0 = omega (arith, is, long, r.1) in
+    subst (λ (e : ℕ). EndsAt parents tree i e) (sym same) r.2

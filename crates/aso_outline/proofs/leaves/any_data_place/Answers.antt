@@ -1,10 +1,10 @@
-use Rattle.std.proofs.Common.{◌≡◌, ◌∙◌, sym, ap, arith, length, true, false, Some, None}
-use Rattle.std.specs.Prelude.{is_some, nat_lt}
+use Rattle.std.proofs.Common.{◌∙◌, sym, ap, arith, length}
+use Rattle.std.specs.Prelude.{is_some}
 use Rattle.aso_tree.specs.Trees.{places_of}
 use Rattle.aso_tree.proofs.Firsts.{first_in_range, none_in_range}
 use Rattle.aso_tree.proofs.FaultLemmas.{longer}
 use Rattle.aso_outline.specs.Leaves.{is_data_place}
-use Rattle.aso_outline.proofs.Positions.{any_filter, some_if_any}
+use Rattle.aso_tree.proofs.Positions.{any_filter, some_if_any}
 use Rattle.aso_outline.proofs.leaves.any_data_place.Goals as goal
 
 pub returns-then-is_data_place : goal.returns-then-is_data_place

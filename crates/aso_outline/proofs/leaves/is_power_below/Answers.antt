@@ -1,6 +1,6 @@
-use Rattle.std.proofs.Common.{◌≡◌, ◌<◌, ◌≤◌, ◌^◌, ◌*◌, ◌%◌, ◌-◌, arith, ap, sym, ◌∙◌, refl}
+use Rattle.std.proofs.Common.{◌<◌, ◌^◌, arith, ap, ◌∙◌, refl}
 use Rattle.std.specs.Prelude.{nat_lt}
-use Rattle.std.proofs.lemmas.Grind.{common_steps, one_shifted}
+use Rattle.std.proofs.lemmas.Grind.{one_shifted}
 use Rattle.aso_outline.proofs.leaves.is_power_below.Goals as goal
 
 pub returns : goal.returns

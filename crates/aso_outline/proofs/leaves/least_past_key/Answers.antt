@@ -1,4 +1,4 @@
-use Rattle.std.proofs.Common.{◌≡◌, ◌∙◌, ◌<◌, ◌≤◌, length, map, ℕ, ◌+◌, ◌*◌, arith, sym, ap, leb, true, false}
+use Rattle.std.proofs.Common.{◌≡◌, ◌∙◌, length, map, ℕ, ◌+◌, arith, sym, ap, leb}
 use Rattle.std.specs.Prelude.{sum}
 use Rattle.std.specs.List.{range_with_len}
 use Rattle.std.proofs.lemmas.Bool.{le-leb, lt-leb}

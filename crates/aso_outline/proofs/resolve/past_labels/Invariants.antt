@@ -1,4 +1,4 @@
-use Rattle.std.proofs.Common.{◌≡◌, ◌≤◌, ◌-◌, drop, length}
+use Rattle.std.proofs.Common.{◌≡◌, ◌-◌, drop, length}
 use Rattle.aso_outline.specs.Members.{past_labels}
 use Rattle.aso_outline.proofs.resolve.past_labels.Given as goal
 

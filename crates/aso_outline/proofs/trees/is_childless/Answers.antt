@@ -1,7 +1,6 @@
-use Rattle.std.proofs.Common.{◌≡◌, ◌∙◌, ◌<◌, ◌≤◌, sym, ap, arith, length, ltb, false}
+use Rattle.std.proofs.Common.{◌≡◌, ◌∙◌, ◌≤◌, sym, ap, arith, length}
 use Rattle.std.proofs.lemmas.Bool.{le-ltb}
-use Rattle.aso_tree.specs.Trees.{is_leaf}
-use Rattle.aso_outline.specs.Members.{parents_of, tree_of, place_of}
+use Rattle.aso_outline.specs.Members.{tree_of, place_of}
 use Rattle.aso_outline.proofs.AtSeats.{childless_past}
 use Rattle.aso_outline.proofs.trees.is_childless.Goals as goal
 

@@ -1,4 +1,4 @@
-use Rattle.std.proofs.Common.{◌≡◌, ◌∙◌, sym}
+use Rattle.std.proofs.Common.{◌∙◌, sym}
 use Rattle.aso_outline.proofs.AtSeats.{trees_of}
 use Rattle.aso_outline.proofs.verify.later_rules.Goals as goal
 

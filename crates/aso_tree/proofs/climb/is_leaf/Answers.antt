@@ -1,4 +1,4 @@
-use Rattle.std.proofs.Common.{◌≡◌, ◌<◌, ◌+◌, ◌∙◌, length, arith, sym, ap, not, eqb}
+use Rattle.std.proofs.Common.{◌≡◌, ◌+◌, ◌∙◌, length, arith, sym, ap, not, eqb}
 use Rattle.aso_tree.proofs.Ends.{childless, leaf_by_next}
 use Rattle.aso_tree.proofs.climb.is_leaf.Goals as goal
 
