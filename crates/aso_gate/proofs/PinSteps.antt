@@ -1,5 +1,5 @@
 -- Each step on the floor and the pins keeps the gate's rule.
-use Rattle.std.proofs.Common.{◌≡◌, ◌≢◌, ◌⊎◌, ℕ, zero, suc, ◌+◌, ◌%◌, ◌<◌, ◌≤◌, Bool, true, false, List, [], ◌∷◌, length, get_or, set, sym, refl, ap, ◌∙◌, subst, ⊎_elim, inl, inr, arith, Option, Some, None, length-set, get_or-set_other, get_or-set_same}
+use Rattle.std.proofs.Common.{◌≡◌, ◌≢◌, ◌⊎◌, ℕ, zero, suc, ◌+◌, ◌%◌, ◌<◌, ◌≤◌, Bool, true, false, List, [], ◌∷◌, ◌++◌, length, get_or, set, sym, refl, ap, ◌∙◌, subst, ⊎_elim, inl, inr, arith, Option, Some, None, length-set, get_or-set_other, get_or-set_same}
 use mathlib.Core.Logic.{dite}
 use mathlib.Core.Option.{some, some-injective}
 use native.Mathlib.Decide.{ℕ_discrete}
@@ -69,6 +69,19 @@ least_stays seats least layout read r k = record {
   high = k.high;
   covers = λ j h. let c = k.covers j h in (c.0, inr c.1, c.2);
   attained = ⊎_elim (λ (e : least ≡ layout). inl e) (λ (e : (m : ℕ) × WasRead read m least × (0 < least)). inr (e.0, inr e.1, e.2)) k.attained;
+}
+
+was_read_before : (read old : List (ℕ × ℕ)) (n x : ℕ) → WasRead read n x → WasRead (read ++ old) n x
+was_read_before [] old n x w = absurd w
+was_read_before (r ∷ rs) old n x (inl e) = inl e
+was_read_before (r ∷ rs) old n x (inr w) = inr (was_read_before rs old n x w)
+
+-- what was the least stays so, with pins that were read before
+pub least_behind : (seats least layout : ℕ) (read old : List (ℕ × ℕ)) → IsLeast seats layout read least → IsLeast seats layout (read ++ old) least
+least_behind seats least layout read old k = record {
+  high = k.high;
+  covers = λ j h. let c = k.covers j h in (c.0, was_read_before read old j c.0 c.1, c.2);
+  attained = ⊎_elim (λ (e : least ≡ layout). inl e) (λ (e : (m : ℕ) × WasRead read m least × (0 < least)). inr (e.0, was_read_before read old e.0 least e.1, e.2)) k.attained;
 }
 
 module _ {E Z : Type 0} (number : E → ℕ) (seats : ℕ) (start : Z) (log : List E) where

@@ -102,6 +102,10 @@ module _ {B T E Z : Type 0} where
   abbrev pub IsPassOf : (T → Z) → Gate T E Z → RawPass B E Z → Type 0
   IsPassOf start g p = IsPassAt g.table.shared.table_id (start_of start g) (seats_of g) p
 
+  -- between the two passes the pins were read, and this is the least of the layout and of what was read then
+  abbrev pub ReadsLeast : Gate T E Z → RawPass B E Z → RawPass B E Z → ℕ → Type 0
+  ReadsLeast g old new least = (now : List (ℕ × ℕ)) × (pins_read new ≡ now ++ pins_read old) × IsLeast (seats_of g) (taken_layout old) now least
+
   -- the number is one that `least_pinned` gave in this turn
   abbrev pub IsLeastPinned : Gate T E Z → RawPass B E Z → ℕ → Type 0
   IsLeastPinned g p least = IsLeast (seats_of g) (taken_layout p) (pins_read p) least

@@ -1,5 +1,5 @@
 ghost use Rattle.std.specs.Prelude.{◌≡◌, ℕ, ◌+◌, ◌<◌, ◌≤◌, ◌⊎◌, Some};
-ghost use Rattle.aso_gate.specs.Passes.{IsPassOf, IsIdle, IsInTurn, IsLeastPinned, KeepsTaken, seen, number_of, pinned_layout, floor_read, taken_layout, taken_swept, raised_floor, pins_read};
+ghost use Rattle.aso_gate.specs.Passes.{IsPassOf, IsIdle, IsInTurn, IsLeastPinned, ReadsLeast, KeepsTaken, seen, number_of, pinned_layout, floor_read, taken_layout, taken_swept, raised_floor, pins_read};
 
 use crate::gate::Gate;
 use crate::pass::{Pass, Turn};
@@ -66,7 +66,8 @@ impl<T: Stands> Gate<T> {
         requires own { IsPassOf T.start self.now pass.old }
         requires turn { IsInTurn pass.old }
         requires current { current ≡ taken_layout pass.old }
-        ensures least { IsLeastPinned self.now pass.new result }
+        ensures least { ReadsLeast self.now pass.old pass.new result }
+        ensures given { IsLeastPinned self.now pass.new result }
         ensures earlier { (least : ℕ) → IsLeastPinned self.now pass.old least → IsLeastPinned self.now pass.new least }
         ensures own { IsPassOf T.start self.now pass.new }
         ensures number { number_of pass.new ≡ number_of pass.old }
