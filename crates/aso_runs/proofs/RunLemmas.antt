@@ -40,12 +40,12 @@ value_upserted how key (x ∷ xs) e = elim (eqb_tells e.0 x.0) [
   | inl same ↦
       let opened : upserted how (x ∷ xs) e ≡ (x.0, stepped how x.1 e.1) ∷ xs = ap (λ (b : Bool). cond b ((x.0, stepped how x.1 e.1) ∷ xs) (x ∷ upserted how xs e)) same.0 in
       ap (value_at key) opened ∙ here how (nat_eq key x.0) x.1 e.1 (value_at key xs)
-        ∙ ap (λ (k : ℕ). cond (nat_eq key k) (Some (after how (value_at key (x ∷ xs)) e.1)) (value_at key (x ∷ xs))) (sym same.1)
+      ∙ ap (λ (k : ℕ). cond (nat_eq key k) (Some (after how (value_at key (x ∷ xs)) e.1)) (value_at key (x ∷ xs))) (sym same.1)
   | inr other ↦
       let opened : upserted how (x ∷ xs) e ≡ x ∷ upserted how xs e = ap (λ (b : Bool). cond b ((x.0, stepped how x.1 e.1) ∷ xs) (x ∷ upserted how xs e)) other.0 in
       let apart : nat_eq key x.0 ≡ true → nat_eq key e.0 ≡ false = λ (h : nat_eq key x.0 ≡ true). ne_eqb key e.0 (λ (k : key ≡ e.0). other.1 (sym k ∙ eqb-true key x.0 h)) in
       ap (value_at key) opened ∙ ap (λ (r : Option ℤ). cond (nat_eq key x.0) (Some x.1) r) (value_upserted how key xs e)
-        ∙ there how (nat_eq key x.0) (nat_eq key e.0) x.1 e.1 (value_at key xs) apart
+      ∙ there how (nat_eq key x.0) (nat_eq key e.0) x.1 e.1 (value_at key xs) apart
 ]
 
 sum_push : (z : ℤ) (many : List ℤ) (a : ℤ) → fold ◌+ℤ◌ z (many ++ a ∷ []) ≡ fold ◌+ℤ◌ z many +ℤ a
@@ -76,8 +76,8 @@ joins how false many a = ap (folded how) (sym (append-nil many))
 pub amounts_more : (key : ℕ) (rs : Entries) (i : ℕ) (d : ℕ × ℤ) → i < length rs → amounts_at key (take (i + 1) rs) ≡ amounts_at key (take i rs) ++ cond (nat_eq key (get_or rs i d).0) ((get_or rs i d).1 ∷ []) []
 amounts_more key rs i d lt =
     ap (map (λ (e : ℕ × ℤ). e.1)) (filter_more (λ (e : ℕ × ℤ). nat_eq key e.0) rs i d lt)
-      ∙ map-append (λ (e : ℕ × ℤ). e.1) (filter (λ (e : ℕ × ℤ). nat_eq key e.0) (take i rs)) (cond (nat_eq key (get_or rs i d).0) (get_or rs i d ∷ []) [])
-      ∙ ap (λ (l : List ℤ). amounts_at key (take i rs) ++ l) (one (nat_eq key (get_or rs i d).0) (get_or rs i d))
+    ∙ map-append (λ (e : ℕ × ℤ). e.1) (filter (λ (e : ℕ × ℤ). nat_eq key e.0) (take i rs)) (cond (nat_eq key (get_or rs i d).0) (get_or rs i d ∷ []) [])
+    ∙ ap (λ (l : List ℤ). amounts_at key (take i rs) ++ l) (one (nat_eq key (get_or rs i d).0) (get_or rs i d))
   where
     one : (b : Bool) (e : ℕ × ℤ) → map (λ (e : ℕ × ℤ). e.1) (cond b (e ∷ []) []) ≡ cond b (e.1 ∷ []) []
     one true e = refl
@@ -90,10 +90,10 @@ pub values_next : (how : Folding) (rs es : Entries) (i : ℕ) (e : ℕ × ℤ) �
 values_next how rs es i e lt is so_far key =
     let many = amounts_at key (take i rs) in
     let more : amounts_at key (take (i + 1) rs) ≡ many ++ cond (nat_eq key e.0) (e.1 ∷ []) [] =
-        amounts_more key rs i e lt ∙ ap (λ (x : ℕ × ℤ). many ++ cond (nat_eq key x.0) (x.1 ∷ []) []) is in
+    amounts_more key rs i e lt ∙ ap (λ (x : ℕ × ℤ). many ++ cond (nat_eq key x.0) (x.1 ∷ []) []) is in
     value_upserted how key es e
-      ∙ ap (λ (o : Option ℤ). cond (nat_eq key e.0) (Some (after how o e.1)) o) (so_far key)
-      ∙ joins how (nat_eq key e.0) many e.1 ∙ ap (folded how) (sym more)
+    ∙ ap (λ (o : Option ℤ). cond (nat_eq key e.0) (Some (after how o e.1)) o) (so_far key)
+    ∙ joins how (nat_eq key e.0) many e.1 ∙ ap (folded how) (sym more)
 
 -- one record more keeps a run
 pub rises_upserted : (how : Folding) (least : ℕ) (es : Entries) (e : ℕ × ℤ) → RisesFrom least es → UpTo e.0 es → least ≤ e.0 → RisesFrom least (upserted how es e)
@@ -143,7 +143,7 @@ last_value least (x ∷ []) (suc n) d k v up long is = absurd (omega arith)
 last_value least (x ∷ y ∷ ys) zero d k v up long is = absurd (omega arith)
 last_value least (x ∷ y ∷ ys) (suc n) d k v up long is =
     ap (λ (b : Bool). cond b (Some x.1) (value_at k (y ∷ ys))) (last_apart x y ys n d k v least up (omega arith) is)
-      ∙ last_value (suc x.0) (y ∷ ys) n d k v up.1 (omega arith) is
+    ∙ last_value (suc x.0) (y ∷ ys) n d k v up.1 (omega arith) is
 
 -- a record at the last key changes the last cell
 pub put_last : (how : Folding) (least : ℕ) (es : Entries) (n : ℕ) (d : ℕ × ℤ) (k : ℕ) (v a : ℤ) → RisesFrom least es → suc n ≡ length es → get_or es n d ≡ (k, v)
@@ -151,12 +151,12 @@ pub put_last : (how : Folding) (least : ℕ) (es : Entries) (n : ℕ) (d : ℕ �
 put_last how least [] n d k v a up long is = absurd (omega arith)
 put_last how least (x ∷ []) zero d k v a up long is =
     subst (λ (e : ℕ × ℤ). (k, stepped how v a) ∷ [] ≡ upserted how (e ∷ []) (k, a)) (sym is)
-      (sym (ap (λ (b : Bool). cond b ((k, stepped how v a) ∷ []) ((k, v) ∷ (k, a) ∷ [])) (eq-eqb k k refl)))
+    (sym (ap (λ (b : Bool). cond b ((k, stepped how v a) ∷ []) ((k, v) ∷ (k, a) ∷ [])) (eq-eqb k k refl)))
 put_last how least (x ∷ []) (suc n) d k v a up long is = absurd (omega arith)
 put_last how least (x ∷ y ∷ ys) zero d k v a up long is = absurd (omega arith)
 put_last how least (x ∷ y ∷ ys) (suc n) d k v a up long is =
     ap (λ (l : Entries). x ∷ l) (put_last how (suc x.0) (y ∷ ys) n d k v a up.1 (omega arith) is)
-      ∙ sym (ap (λ (b : Bool). cond b ((x.0, stepped how x.1 a) ∷ y ∷ ys) (x ∷ upserted how (y ∷ ys) (k, a))) (last_apart x y ys n d k v least up (omega arith) is))
+    ∙ sym (ap (λ (b : Bool). cond b ((x.0, stepped how x.1 a) ∷ y ∷ ys) (x ∷ upserted how (y ∷ ys) (k, a))) (last_apart x y ys n d k v least up (omega arith) is))
 
 -- a record above the last key goes behind the others
 pub put_new : (how : Folding) (least : ℕ) (es : Entries) (e : ℕ × ℤ) (d : ℕ × ℤ) → RisesFrom least es → UpTo e.0 es → ((n : ℕ) → suc n ≡ length es → (get_or es n d).0 ≢ e.0) → upserted how es e ≡ es ++ e ∷ []
@@ -164,7 +164,7 @@ put_new how least [] e d up to ne = refl
 put_new how least (x ∷ xs) e d up to ne =
     let apart : nat_eq e.0 x.0 ≡ false = ne_eqb e.0 x.0 (λ (q : e.0 ≡ x.0). head xs up to ne q) in
     ap (λ (b : Bool). cond b ((x.0, stepped how x.1 e.1) ∷ xs) (x ∷ upserted how xs e)) apart
-      ∙ ap (λ (l : Entries). x ∷ l) (put_new how (suc x.0) xs e d up.1 to.1 (λ (n : ℕ) (long : suc n ≡ length xs). ne (suc n) (omega (arith, long))))
+    ∙ ap (λ (l : Entries). x ∷ l) (put_new how (suc x.0) xs e d up.1 to.1 (λ (n : ℕ) (long : suc n ≡ length xs). ne (suc n) (omega (arith, long))))
   where
     head : (xs : Entries) → RisesFrom least (x ∷ xs) → UpTo e.0 (x ∷ xs) → ((n : ℕ) → suc n ≡ length (x ∷ xs) → (get_or (x ∷ xs) n d).0 ≢ e.0) → e.0 ≡ x.0 → ⊥
     head [] up to ne q = ne zero refl (sym q)

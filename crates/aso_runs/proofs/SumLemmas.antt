@@ -53,7 +53,7 @@ greatest_at (e ∷ es) (suc i) d lt = let h = greatest_at es i d (omega arith) i
 pub amounts_append : (key : ℕ) (xs ys : Entries) → amounts_at key (xs ++ ys) ≡ amounts_at key xs ++ amounts_at key ys
 amounts_append key xs ys =
     ap (map (λ (e : ℕ × ℤ). e.1)) (filter-append (λ (e : ℕ × ℤ). nat_eq key e.0) xs ys)
-      ∙ map-append (λ (e : ℕ × ℤ). e.1) (filter (λ (e : ℕ × ℤ). nat_eq key e.0) xs) (filter (λ (e : ℕ × ℤ). nat_eq key e.0) ys)
+    ∙ map-append (λ (e : ℕ × ℤ). e.1) (filter (λ (e : ℕ × ℤ). nat_eq key e.0) xs) (filter (λ (e : ℕ × ℤ). nat_eq key e.0) ys)
 
 -- a record's amount adds to what was summed before it at its key
 pub sum_fits : (rs es : Entries) (i : ℕ) (e : ℕ × ℤ) → i < length rs → get_or rs i e ≡ e
@@ -64,13 +64,17 @@ sum_fits rs es i e lt is value room =
   where
     own : unsigned_abs e.1 ≤ greatest rs
     own = subst (λ (x : ℕ × ℤ). unsigned_abs x.1 ≤ greatest rs) is (greatest_at rs i e lt)
+
     more : amounts_at e.0 (take (i + 1) rs) ≡ amounts_at e.0 (take i rs) ++ e.1 ∷ []
     more = amounts_more e.0 rs i e lt ∙ ap (λ (x : ℕ × ℤ). amounts_at e.0 (take i rs) ++ cond (nat_eq e.0 x.0) (x.1 ∷ []) []) is
         ∙ ap (λ (b : Bool). amounts_at e.0 (take i rs) ++ cond b (e.1 ∷ []) []) (eq-eqb e.0 e.0 refl)
+
     all : amounts_at e.0 rs ≡ amounts_at e.0 (take (i + 1) rs) ++ amounts_at e.0 (drop (i + 1) rs)
     all = ap (amounts_at e.0) (sym (take-append-drop (i + 1) rs)) ∙ amounts_append e.0 (take (i + 1) rs) (drop (i + 1) rs)
+
     longer : length (amounts_at e.0 (take i rs)) + 1 ≤ length (amounts_at e.0 rs)
     longer = omega (arith, ap length all, length-append (amounts_at e.0 (take (i + 1) rs)) (amounts_at e.0 (drop (i + 1) rs)), ap length more, length-append (amounts_at e.0 (take i rs)) (e.1 ∷ []))
+
     some : (amounts : List ℤ) → amounts ≡ amounts_at e.0 (take i rs) → IfSome (total amounts) (λ v. FitsSigned w128 (v +ℤ e.1))
     some [] same = tt
     some (a ∷ rest) same =
@@ -80,3 +84,12 @@ sum_fits rs es i e lt is value room =
         let cap : (length (a ∷ rest) + 1) * greatest rs ≤ length (amounts_at e.0 rs) * greatest rs = mul-le-mul_right (greatest rs) long in
         let s = abs_sum (fold ◌+ℤ◌ (pos 0) (a ∷ rest)) e.1 in
         small_fits (fold ◌+ℤ◌ (pos 0) (a ∷ rest) +ℤ e.1) (under (unsigned_abs (fold ◌+ℤ◌ (pos 0) (a ∷ rest) +ℤ e.1)) (unsigned_abs (fold ◌+ℤ◌ (pos 0) (a ∷ rest))) (unsigned_abs e.1) (length (a ∷ rest)) (greatest rs) (length (amounts_at e.0 rs) * greatest rs) s sum own cap room)
+
+-- a key has no more amounts than there are records
+pub amounts_few : (key : ℕ) (es : Entries) → length (amounts_at key es) ≤ length es
+amounts_few key [] = omega arith
+amounts_few key (e ∷ es) = one (nat_eq key e.0) (filter (λ (x : ℕ × ℤ). nat_eq key x.0) es) (amounts_few key es)
+  where
+    one : (b : Bool) (xs : Entries) → length (map (λ (x : ℕ × ℤ). x.1) xs) ≤ length es → length (map (λ (x : ℕ × ℤ). x.1) (cond b (e ∷ xs) xs)) ≤ length (e ∷ es)
+    one true xs h = omega arith
+    one false xs h = omega arith

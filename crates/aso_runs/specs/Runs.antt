@@ -1,5 +1,6 @@
 -- Sorted runs of cells as finite maps from keys to amounts.
-use Rattle.std.specs.Prelude.{◌≡◌, ℕ, zero, suc, ◌+◌, ◌-◌, ◌<◌, ◌≤◌, max, ℤ, pos, ◌+ℤ◌, unsigned_abs, List, [], ◌∷◌, length, map, filter, fold, Option, Some, None, nat_eq, slice_get}
+use Rattle.std.specs.Prelude.{◌≡◌, ℕ, zero, suc, ◌+◌, ◌-◌, ◌<◌, ◌≤◌, max, ℤ, pos, ◌+ℤ◌, unsigned_abs, List, [], ◌∷◌, length, map, filter, fold, neg_ℤ, Option, Some, None, nat_eq, slice_get}
+use Rattle.std.specs.List.{flat_map}
 use Rattle.std.specs.Map.{lookup}
 
 -- cells as their keys, which are numbers, with their amounts
@@ -36,3 +37,11 @@ latest amounts = slice_get amounts (length amounts - 1)
 abbrev pub greatest : Entries → ℕ
 greatest [] = 0
 greatest (e ∷ es) = max (unsigned_abs e.1) (greatest es)
+
+-- the cells of all runs
+abbrev pub joined : List Entries → Entries
+joined runs = flat_map (λ (es : Entries). es) runs
+
+-- every amount with the other sign
+abbrev pub negated : Entries → Entries
+negated es = map (λ (e : ℕ × ℤ). (e.0, neg_ℤ e.1)) es

@@ -60,4 +60,9 @@ impl<const W: usize> Run<W> {
         self.cells.push(cell)?;
         Ok(())
     }
+
+    // The allocator that the cells were made with.
+    pub(crate) fn allocator(&self) -> Global {
+        *self.cells.allocator()
+    }
 }

@@ -29,7 +29,7 @@ step-amount-requires g c =
     λ sums.
     let h : FitsSigned w128 (last.amount +ℤ cell.amount) = subst (λ (o : Option ℤ). IfSome o (λ v. FitsSigned w128 (v +ℤ cell.amount))) value (c.requires.fits sums) in
     subst (λ (z : ℤ). FitsSigned w128 (z +ℤ to_z w128 (of_z w128 cell.amount))) (sym (to_z-of_z {w = w128} {z = last.amount} a))
-      (subst (λ (z : ℤ). FitsSigned w128 (last.amount +ℤ z)) (sym (to_z-of_z {w = w128} {z = cell.amount} b)) h)
+    (subst (λ (z : ℤ). FitsSigned w128 (last.amount +ℤ z)) (sym (to_z-of_z {w = w128} {z = cell.amount} b)) h)
 
 pub returns-then-eq : goal.returns-then-eq
 returns-then-eq g c =
@@ -46,12 +46,12 @@ returns-then-eq g c =
     let b : FitsSigned w128 cell.amount = search rules in
     let r : FitsSigned w128 c.step-amount.result = search rules in
     let amount : to_z w128 (of_z w128 c.step-amount.result) ≡ stepped how last.amount cell.amount =
-        to_z-of_z {w = w128} {z = c.step-amount.result} r ∙ c.step-amount.ensures
-          ∙ ap (λ (z : ℤ). stepped how z (to_z w128 (of_z w128 cell.amount))) (to_z-of_z {w = w128} {z = last.amount} a)
-          ∙ ap (stepped how last.amount) (to_z-of_z {w = w128} {z = cell.amount} b) in
+    to_z-of_z {w = w128} {z = c.step-amount.result} r ∙ c.step-amount.ensures
+    ∙ ap (λ (z : ℤ). stepped how z (to_z w128 (of_z w128 cell.amount))) (to_z-of_z {w = w128} {z = last.amount} a)
+    ∙ ap (stepped how last.amount) (to_z-of_z {w = w128} {z = cell.amount} b) in
     entries_set c.args.cells.now.items n (record { key = last.key; amount = to_z w128 (of_z w128 c.step-amount.result) })
-      ∙ ap (λ (z : ℤ). set es n (last.key, z)) amount ∙ ap (λ (k : ℕ). set es n (k, stepped how last.amount cell.amount)) same
-      ∙ put_last how 0 es n (entry_of last) cell.key last.amount cell.amount c.requires.rises (omega arith) at
+    ∙ ap (λ (z : ℤ). set es n (last.key, z)) amount ∙ ap (λ (k : ℕ). set es n (k, stepped how last.amount cell.amount)) same
+    ∙ put_last how 0 es n (entry_of last) cell.key last.amount cell.amount c.requires.rises (omega arith) at
 
 pub returns : goal.returns
 returns g c =
@@ -60,13 +60,13 @@ returns g c =
     let count : length c.args.cells.now.items ≡ c.len-count.result = search rules in
     let long : length es ≡ length c.args.cells.now.items = length-map c.args.cells.now.items entry_of in
     let above : (n : ℕ) → suc n ≡ length es → (get_or es n (entry_of cell)).0 ≢ cell.key =
-        elim c.if-count-gt0.branch [
-          | then-count-gt0+else-eq w ↦ λ n is q.
-              let e : n ≡ c.len-count.result - 1 = omega arith in
-              let at : get_or es n (entry_of cell) ≡ entry_of w.index.result.now =
-                  ap (λ (j : ℕ). get_or es j (entry_of cell)) e ∙ entry_at c.args.cells.now.items (c.len-count.result - 1) w.index.result.now (entry_of cell) (omega arith) w.index.ensures in
-              eqb-false w.index.result.now.key cell.key (search rules) (sym (ap (λ (x : ℕ × ℤ). x.0) at) ∙ q)
-          | else-count-gt0 w ↦ λ n is q. absurd (omega arith)
-        ] in
+    elim c.if-count-gt0.branch [
+      | then-count-gt0+else-eq w ↦ λ n is q.
+          let e : n ≡ c.len-count.result - 1 = omega arith in
+          let at : get_or es n (entry_of cell) ≡ entry_of w.index.result.now =
+          ap (λ (j : ℕ). get_or es j (entry_of cell)) e ∙ entry_at c.args.cells.now.items (c.len-count.result - 1) w.index.result.now (entry_of cell) (omega arith) w.index.ensures in
+          eqb-false w.index.result.now.key cell.key (search rules) (sym (ap (λ (x : ℕ × ℤ). x.0) at) ∙ q)
+      | else-count-gt0 w ↦ λ n is q. absurd (omega arith)
+    ] in
     ap entries_of c.in_ok-push.ensures.items ∙ map-append entry_of c.args.cells.now.items (cell ∷ [])
-      ∙ sym (put_new c.args.how 0 es (entry_of cell) (entry_of cell) c.requires.rises c.requires.order above)
+    ∙ sym (put_new c.args.how 0 es (entry_of cell) (entry_of cell) c.requires.rises c.requires.order above)
