@@ -33,3 +33,25 @@ fn records_fold_to_their_last(rt: HostRuntime) -> Result<(), Fail> {
     shows(&rt, &run, &[(2, 1), (5, 7)]);
     Ok(())
 }
+
+#[test]
+fn records_fold_to_their_sum(rt: HostRuntime) -> Result<(), Fail> {
+    let five = Words::from_u128(5).ok_or("five")?;
+    let two = Words::from_u128(2).ok_or("two")?;
+    let records = vec![in rt.alloc();
+        Cell {
+            key: five,
+            amount: 5
+        },
+        Cell {
+            key: two,
+            amount: 1
+        },
+        Cell {
+            key: five,
+            amount: 7
+        },
+    ]?;
+    shows(&rt, &fold_sum(records)?, &[(2, 1), (5, 12)]);
+    Ok(())
+}
