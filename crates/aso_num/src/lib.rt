@@ -8,10 +8,10 @@ mod text;
 mod value;
 
 pub use amount::{Amount, NumberFault, parse_amount};
+pub use aso_memory::NoMemory;
 pub use list::List;
 pub use status::Status;
 pub use text::Text;
-pub use aso_memory::NoMemory;
 pub use value::{OutOfRange, Val, add, print_val};
 
 #[cfg(test)]

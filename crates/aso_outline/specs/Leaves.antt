@@ -1,0 +1,9 @@
+-- The data leaves of a tree of members.
+use Rattle.std.specs.Prelude.{ℕ, Bool, ◌&&◌, is_none, List}
+use Rattle.aso_tree.specs.Trees.{is_leaf}
+use Rattle.aso_outline.specs.declared.draft.DraftMember.{DraftMember}
+use Rattle.aso_outline.specs.Members.{parents_of, member_is}
+
+-- a leaf without a formula
+abbrev pub is_data_place : List DraftMember → ℕ → Bool
+is_data_place ms i = is_leaf (parents_of ms) i && member_is (λ m. is_none m.formula) ms i

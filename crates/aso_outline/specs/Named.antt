@@ -1,0 +1,28 @@
+-- What a table of names says of a draft.
+use Rattle.std.specs.Prelude.{◌≡◌, ℕ, List, Option, Some, None}
+use Rattle.std.specs.HashMap.{get_by_text}
+use Rattle.std.specs.List.{position}
+use Rattle.aso_tree.specs.Trees.{places_of}
+use Rattle.aso_outline.specs.declared.draft.Draft.{Draft}
+use Rattle.aso_outline.specs.declared.table.Named.{Named}
+use Rattle.aso_outline.specs.declared.table.Named.TheVariants.{All, Repeat}
+use Rattle.aso_outline.specs.declared.table.NameTable.{NameTable}
+use Rattle.aso_outline.specs.declared.table.Verdict.{Verdict}
+use Rattle.aso_outline.specs.declared.table.Verdict.TheVariants.{Breaks, Keeps}
+use Rattle.aso_outline.specs.Pairs.{pair}
+use Rattle.aso_outline.specs.Members.{Name, find, seats}
+use Rattle.aso_outline.specs.Rules.{repeats, own_names}
+
+-- each name stands for the member that has it
+abbrev pub Finds : Draft → NameTable → Type 0
+Finds o names = (q : Name) → get_by_text names.map q ≡ find o q
+
+-- all names differ and are in the table, or this is the first that repeats an earlier one
+abbrev pub IsNamed : Draft → Named → Type 0
+IsNamed o (All names) = Finds o names × (position (repeats (own_names o)) (places_of (seats o)) ≡ None)
+IsNamed o (Repeat number) = position (repeats (own_names o)) (places_of (seats o)) ≡ Some number
+
+-- the broken rule, or the members by name
+abbrev pub IsVerdict : Option (ℕ × ℕ) → Draft → Verdict → Type 0
+IsVerdict rule o (Breaks b) = rule ≡ Some (pair b)
+IsVerdict rule o (Keeps names) = (rule ≡ None) × Finds o names

@@ -1,0 +1,62 @@
+// The members of an outline by what their numbers stand for.
+ghost use Rattle.std.specs.Prelude.{◌≡◌, is_none};
+ghost use Rattle.aso_outline.specs.Members.{has};
+
+use crate::draft::{Draft, DraftMember};
+use crate::look::member_at;
+use crate::outline::Outline;
+use crate::resolve::resolve;
+use crate::seat::Seat;
+use crate::seats::seats;
+use crate::trees::{is_childless, sound_tree};
+use aso_num::NoMemory;
+use std::alloc::Global;
+
+impl Outline {
+    ghost use Rattle.std.specs.Prelude.{◌≡◌, ◌<◌, ◌^◌, length, IfOk};
+    ghost use Rattle.aso_tree.specs.Trees.{IsTree};
+    ghost use Rattle.aso_outline.specs.Members.{seats, resolve, tree_of, parents_of, is_data_leaf};
+
+    /// What each member number stands for, in the order of the numbers.
+    pub fn seats(&self, alloc: Global) -> Result<Vec<Seat>, NoMemory>
+        ensures { IfOk result (λ all. all.items ≡ seats self.now) }
+    {
+        let all = seats(alloc, self.sound_draft())?;
+        Ok(all)
+    }
+
+    /// The member itself, or what a label-only member stands for.
+    pub fn resolved(&self, seat: Seat) -> Seat
+        ensures { result ≡ resolve self.now seat }
+    {
+        resolve(self.sound_draft(), seat)
+    }
+
+    /// The member is a leaf of a dimension's first hierarchy and has no formula.
+    pub fn is_data_leaf(&self, seat: Seat) -> bool
+        ensures { result ≡ is_data_leaf self.now seat }
+    {
+        match seat {
+            Seat::Inner { hier: 0, .. } => is_childless(self.sound_draft(), seat) && is_without_formula(self.sound_draft(), seat),
+            _ => false,
+        }
+    }
+
+    /// The tree in which a member stands.
+    pub fn tree(&self, seat: Seat) -> &[DraftMember]
+        ensures value { result.now ≡ tree_of self.now seat }
+        ensures tree { IsTree (parents_of result.now) }
+        ensures short { length result.now < 2 ^ 32 }
+    {
+        sound_tree(self.sound_draft(), seat)
+    }
+}
+
+fn is_without_formula(draft: &Draft, seat: Seat) -> bool
+    ensures { result ≡ has (λ m. is_none m.formula) draft.now seat }
+{
+    match member_at(draft, seat) {
+        Some(member) => member.formula.is_none(),
+        None => false,
+    }
+}
