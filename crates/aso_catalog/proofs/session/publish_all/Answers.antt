@@ -1,0 +1,38 @@
+use Rattle.std.proofs.Common.{◌≡◌, inl, inr, ⊎_elim, subst, arith, ◌+◌}
+use Rattle.aso_catalog.specs.Image.{IsBody}
+use Rattle.aso_catalog.proofs.Views.{throughout_nothing, throughout_then, throughout_weaker, ith_body, is_one_of, settled_before}
+use Rattle.aso_catalog.proofs.session.publish_all.Goals as goal
+
+pub loop-body-init : goal.loop-body-init
+loop-body-init g c = record {
+  told = λ e. e;
+  layout = omega arith;
+  covers = λ e x is. inl is;
+  any_moment = throughout_weaker c.args.catalog.now c.args.catalog.now _ _ (throughout_nothing c.args.catalog.now) (λ x e. inl e);
+}
+
+pub publish-requires : goal.publish-requires
+publish-requires g c = λ less.
+    let so_far = c.loop-body.invariant in
+    let body = ith_body c.args.bodies.now c.loop-body.body-index c.body-item.result c.deref.result.now c.loop-body-test.true c.body-item.is c.deref.ensures.value in
+    let at : c.args.catalog.now.layout + 1 + c.loop-body.body-index ≡ c.loop-body.catalog.layout + 1 = omega (arith, so_far.layout) in
+    subst (λ n. IsBody n c.deref.result.now) at (subst (λ b. IsBody (c.args.catalog.now.layout + 1 + c.loop-body.body-index) b) body (c.requires c.loop-body.body-index c.loop-body-test.true))
+
+pub returns-in_err-publish-clause-any_moment : goal.returns-in_err-publish-clause-any_moment
+returns-in_err-publish-clause-any_moment g c =
+    let so_far = c.loop-body.invariant in
+    throughout_then c.args.catalog.now c.loop-body.catalog c.publish.new.self _ _ _ so_far.told so_far.any_moment c.publish.ensures.any_moment (λ e x is. is)
+    (λ e x. ⊎_elim (so_far.covers e x) (λ one. inr (is_one_of c.args.bodies.now c.loop-body.body-index c.body-item.result c.deref.result.now c.loop-body-test.true c.body-item.is c.deref.ensures.value x one)))
+
+pub loop-body-preserved : goal.loop-body-preserved
+loop-body-preserved g c =
+    let so_far = c.loop-body.invariant in
+    let published = c.in_ok-publish.ensures in
+    record {
+      told = λ e. published.told.0 (so_far.told e);
+      layout = omega (arith, so_far.layout, published.layout);
+      covers = λ e x is. inr (is_one_of c.args.bodies.now c.loop-body.body-index c.body-item.result c.deref.result.now c.loop-body-test.true c.body-item.is c.deref.ensures.value x
+          (settled_before c.publish.new.self c.deref.result.now x (published.published (so_far.told e)) (published.settled (so_far.told e)) is));
+      any_moment = throughout_then c.args.catalog.now c.loop-body.catalog c.publish.new.self _ _ _ so_far.told so_far.any_moment c.publish.ensures.any_moment (λ e x is. is)
+          (λ e x. ⊎_elim (so_far.covers e x) (λ one. inr (is_one_of c.args.bodies.now c.loop-body.body-index c.body-item.result c.deref.result.now c.loop-body-test.true c.body-item.is c.deref.ensures.value x one)));
+    }
