@@ -8,8 +8,8 @@ use Rattle.std.proofs.lemmas.List.Elements.{filter_map-append}
 use Rattle.std.proofs.lemmas.List.Folds.{list_any-append}
 use Rattle.std.proofs.lemmas.Option.{slice_get-get_or, none-some}
 use Rattle.aso_tree.proofs.Paths.{filter_range_push}
-use Rattle.aso_outline.proofs.Positions.{position_cons}
-use Rattle.aso_outline.proofs.Ranges.{map_push}
+use Rattle.aso_tree.proofs.Positions.{position_cons}
+use Rattle.aso_tree.proofs.Paths.{map_push}
 use Rattle.aso_outline.specs.declared.draft.Draft.{Draft}
 use Rattle.aso_outline.specs.declared.draft.DraftMember.{DraftMember}
 use Rattle.aso_outline.specs.declared.seat.Seat.{Seat}

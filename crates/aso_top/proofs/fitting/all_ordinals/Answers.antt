@@ -1,6 +1,6 @@
 use Rattle.std.proofs.Common.{◌≡◌, ◌∙◌, ◌++◌, ◌∷◌, [], List, Option, ℕ, ap, sym, map, rules}
 use Rattle.std.specs.List.{range_with_len}
-use Rattle.aso_outline.proofs.Ranges.{map_push}
+use Rattle.aso_tree.proofs.Paths.{map_push}
 use Rattle.aso_top.specs.Places.{ordinals_of}
 use Rattle.aso_top.proofs.fitting.all_ordinals.Goals as goal
 

@@ -1,6 +1,6 @@
 use Rattle.std.proofs.Common.{◌≡◌, ◌∙◌, ◌++◌, ◌∷◌, [], List, Bool, ℕ, ap, sym, map, rules}
 use Rattle.std.specs.List.{range_with_len}
-use Rattle.aso_outline.proofs.Ranges.{map_push}
+use Rattle.aso_tree.proofs.Paths.{map_push}
 use Rattle.aso_spec.specs.Eval.{own_seat}
 use Rattle.aso_top.specs.Shown.{held_by}
 use Rattle.aso_top.proofs.places.owns.Goals as goal

@@ -1,0 +1,179 @@
+use super::*;
+use aso_disk::{MemLibrary, MemSink};
+use aso_num::Status;
+use std::alloc::Global;
+use std::fmt::Write;
+use std::test::Fail;
+
+const FIRST: &str = "dim Year\n.Jan\n.Feb\ndim Market\n.NY\n.CA\ncell Jan|NY|10.5\ncell Feb|NY|-0.25\ncell Jan|CA|2\ncolumns Jan|Feb|Year\nrows NY|Market\n";
+
+const FIRST_GRID: &str = "GRID 1 commit 0 rows 2 columns 3\n\tJan\tFeb\tYear\nNY\t10.5000\t-0.2500\t10.2500\nMarket\t12.5000\t-0.2500\t12.2500\nEND 1\n";
+
+const USAGE: &str = "usage: aso eval SHEET, create DIR OUTLINE, run DIR SCRIPT, check DIR, sample DIR NUMBER CELLS, serve DIR [--rounds N] SCRIPT...\n";
+
+const NOT_PLAIN: &str = "ERROR 0 201 syntax: byte 0\n";
+
+// What a run over a library of one text, "s", prints and ends with. Texts of a million bytes are none of its cases.
+fn ran(
+    alloc: Global,
+    words: &[&str],
+    text: &str,
+    library_fails: u64,
+    sink_fails: u64,
+) -> Result<(Status, Vec<u8>), Fail> {
+    if text.len() >= 1_000_000 {
+        return Ok((Status::Exists, Vec::new(alloc)));
+    }
+    let names = vec![in alloc; String::from_str(alloc, "s")?]?;
+    let texts = vec![in alloc; Vec::from_slice(alloc, text.as_bytes())?]?;
+    let mut library = MemLibrary::new(alloc, names, texts, vec![in alloc; library_fails]?);
+    let mut out = MemSink::new(alloc, vec![in alloc; sink_fails]?);
+    let mut all = Vec::new(alloc);
+    for word in words {
+        all.push(String::from_str(alloc, word)?)?;
+    }
+    let status = run(alloc, &all, &mut library, &mut out);
+    Ok((status, Vec::from_slice(alloc, out.bytes())?))
+}
+
+const NEVER: u64 = 1_000_000;
+
+#[test]
+fn a_run_ends_as_its_words_its_library_and_its_sink_have_it(rt: HostRuntime) -> Result<(), Fail> {
+    let alloc = rt.alloc();
+    let cases = [
+        (["eval", "s"].as_slice(), NEVER, NEVER, Status::Done, FIRST_GRID),
+        ([].as_slice(), NEVER, NEVER, Status::Usage, USAGE),
+        (["eval"].as_slice(), NEVER, NEVER, Status::Usage, USAGE),
+        (["eval", "s", "s"].as_slice(), NEVER, NEVER, Status::Usage, USAGE),
+        (["eval", ""].as_slice(), NEVER, NEVER, Status::Usage, USAGE),
+        (["eval", "-s"].as_slice(), NEVER, NEVER, Status::Usage, USAGE),
+        (["Eval", "s"].as_slice(), NEVER, NEVER, Status::Usage, USAGE),
+        (["check", "s"].as_slice(), NEVER, NEVER, Status::Usage, USAGE),
+        (["eval", "t\t"].as_slice(), NEVER, NEVER, Status::Refused, "ERROR 0 206 no such text: t?\n"),
+        (["eval", "s"].as_slice(), 0, NEVER, Status::Library, "ERROR 0 304 library fault\n"),
+        (["eval", "s"].as_slice(), 1, NEVER, Status::Done, FIRST_GRID),
+        (["eval", "s"].as_slice(), NEVER, 0, Status::Sink, ""),
+        (["eval", "s"].as_slice(), 0, 0, Status::Sink, ""),
+        ([].as_slice(), NEVER, 0, Status::Sink, ""),
+    ];
+    for (words, library_fails, sink_fails, status, text) in cases {
+        let (ended, printed) = ran(alloc, words, FIRST, library_fails, sink_fails)?;
+        assert_eq!(rt; ended, status);
+        assert_eq!(rt; printed.as_slice(), text.as_bytes());
+    }
+    Ok(())
+}
+
+#[test]
+fn each_way_to_be_no_plain_sheet_is_refused(rt: HostRuntime) -> Result<(), Fail> {
+    let alloc = rt.alloc();
+    let cases = [
+        "",
+        "\n",
+        // a comment, a blank line, a line end of two bytes, a last line without its end, a database line
+        "# demo\ndim A\n.a\ndim B\n.b\ncolumns a\nrows b\n",
+        "dim A\n.a\n\ndim B\n.b\ncolumns a\nrows b\n",
+        "dim A\r\n.a\r\ndim B\r\n.b\r\ncolumns a\r\nrows b\r\n",
+        "dim A\n.a\ndim B\n.b\ncolumns a\nrows b",
+        "database Sample.Basic\ndim A\n.a\ndim B\n.b\ncolumns a\nrows b\n",
+        // lines out of order, lacking or behind the end
+        "dim A\n.a\ndim B\n.b\nrows b\ncolumns a\n",
+        "dim A\n.a\ndim B\n.b\ncolumns a\n",
+        "dim A\n.a\ndim B\n.b\nrows b\n",
+        "dim A\n.a\ndim B\n.b\ncolumns a\ncell a|b|1\nrows b\n",
+        "dim A\n.a\ndim B\n.b\ncolumns a\nrows b\nrows b\n",
+        "columns a\nrows b\n",
+        // members
+        ".a\ndim A\ndim B\n.b\ncolumns A\nrows b\n",
+        "dim A\n..a\ndim B\n.b\ncolumns a\nrows b\n",
+        "dim A\n.a\n...b\ndim B\n.b\ncolumns a\nrows b\n",
+        "dim A\n.1\n..2\n...3\n....4\n.....5\n......6\n.......7\n........8\ndim B\n.b\ncolumns 1\nrows b\n",
+        "dim A\n.a\ndim B\n.a\ncolumns A\nrows B\n",
+        "dim A\n.a b\ndim B\n.b\ncolumns A\nrows b\n",
+        "dim A\n.\ndim B\n.b\ncolumns A\nrows b\n",
+        "dim A\n.\u{e9}\ndim B\n.b\ncolumns A\nrows b\n",
+        "dim  A\n.a\ndim B\n.b\ncolumns a\nrows b\n",
+        "dim 1\ndim 2\ndim 3\ndim 4\ndim 5\ndim 6\ndim 7\ndim 8\ndim 9\ncolumns 1\nrows 2\n",
+        // cells
+        "dim A\n.a\ndim B\n.b\ncell a|b\ncolumns a\nrows b\n",
+        "dim A\n.a\ndim B\n.b\ncell a|1\ncolumns a\nrows b\n",
+        "dim A\n.a\ndim B\n.b\ncell a|b|c|1\ncolumns a\nrows b\n",
+        "dim A\n.a\ndim B\n.b\ncell a|a|1\ncolumns a\nrows b\n",
+        "dim A\n.a\ndim B\n.b\ncell A|b|1\ncolumns a\nrows b\n",
+        "dim A\n.a\ndim B\n.b\ncell a|c|1\ncolumns a\nrows b\n",
+        "dim A\n.a\ndim B\n.b\ncell a|b|1,5\ncolumns a\nrows b\n",
+        "dim A\n.a\ndim B\n.b\ncell a|b|1.00001\ncolumns a\nrows b\n",
+        "dim A\n.a\ndim B\n.b\ncell a|b|1234567890\ncolumns a\nrows b\n",
+        "dim A\n.a\ndim B\n.b\ncell a|b|\ncolumns a\nrows b\n",
+        // axes
+        "dim A\n.a\ndim B\n.b\ncolumns \nrows b\n",
+        "dim A\n.a\ndim B\n.b\ncolumns a|b\nrows b\n",
+        "dim A\n.a\ndim B\n.b\ncolumns a\nrows A\n",
+        "dim A\n.a\ndim B\n.b\ncolumns c\nrows b\n",
+        "dim A\n.a\ndim B\n.b\ncolumns a|\nrows b\n",
+    ];
+    for text in cases {
+        let (ended, printed) = ran(alloc, &["eval", "s"], text, NEVER, NEVER)?;
+        assert_eq!(rt; ended, Status::Refused, "at {text}");
+        assert_eq!(rt; printed.as_slice(), NOT_PLAIN.as_bytes());
+    }
+    Ok(())
+}
+
+#[test]
+fn grids_of_plain_sheets(rt: HostRuntime) -> Result<(), Fail> {
+    let alloc = rt.alloc();
+    let cases = [
+        // dimensions without members below them, and no cell
+        ("dim A\ndim B\ncolumns A\nrows B\n", "GRID 1 commit 0 rows 1 columns 1\n\tA\nB\t#Missing\nEND 1\n"),
+        // three levels; cells that are summed, in any order of their names; a sum of zero; a third dimension at its own member
+        (
+            "dim A\n.a\n..x\n..y\n.z\ndim B\n.b\ndim C\n.c\n.d\ncell x|b|c|1\ncell d|b|x|-1\ncell b|c|y|.5\ncolumns A|a|x|y|z\nrows B|b|b\n",
+            "GRID 1 commit 0 rows 3 columns 5\n\tA\ta\tx\ty\tz\nB\t0.5000\t0.5000\t0.0000\t0.5000\t#Missing\nb\t0.5000\t0.5000\t0.0000\t0.5000\t#Missing\nb\t0.5000\t0.5000\t0.0000\t0.5000\t#Missing\nEND 1\n",
+        ),
+        // the greatest amount that is plain
+        ("dim A\ndim B\ncell A|B|999999999.9999\ncolumns A\nrows B\n", "GRID 1 commit 0 rows 1 columns 1\n\tA\nB\t999999999.9999\nEND 1\n"),
+    ];
+    for (text, grid) in cases {
+        let (ended, printed) = ran(alloc, &["eval", "s"], text, NEVER, NEVER)?;
+        assert_eq!(rt; ended, Status::Done, "at {text}");
+        assert_eq!(rt; printed.as_slice(), grid.as_bytes());
+    }
+    Ok(())
+}
+
+// A sheet with so many members below its first dimension, so many cells and so many columns.
+fn sheet_of(alloc: Global, members: u32, cells: u32, columns: u32) -> Result<String, Fail> {
+    let mut text = String::from_str(alloc, "dim A\n")?;
+    for number in 0..members {
+        write!(text, ".m{number}\n")?;
+    }
+    text.push_str("dim B\n")?;
+    for _ in 0..cells {
+        text.push_str("cell m0|B|1\n")?;
+    }
+    text.push_str("columns m0")?;
+    for _ in 1..columns {
+        text.push_str("|m0")?;
+    }
+    text.push_str("\nrows B\n")?;
+    Ok(text)
+}
+
+#[test]
+fn sheets_at_the_limits_are_plain_and_those_past_them_are_not(rt: HostRuntime) -> Result<(), Fail> {
+    let alloc = rt.alloc();
+    let cases = [
+        (62, 1000, 64, Status::Done),
+        (63, 1, 1, Status::Refused),
+        (1, 1001, 1, Status::Refused),
+        (1, 1, 65, Status::Refused),
+    ];
+    for (members, cells, columns, status) in cases {
+        let text = sheet_of(alloc, members, cells, columns)?;
+        let (ended, _) = ran(alloc, &["eval", "s"], &text, NEVER, NEVER)?;
+        assert_eq!(rt; ended, status, "at {members} members, {cells} cells, {columns} columns");
+    }
+    Ok(())
+}
