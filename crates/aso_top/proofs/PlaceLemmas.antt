@@ -69,6 +69,7 @@ module _ (ms : List DraftMember) (p : ℕ → Bool) (n : ℕ) (low : n < length 
       or_false : (b : Bool) → (b || false) ≡ b
       or_false true = refl
       or_false false = refl
+
       one : (b : Bool) → list_any (same_name q) (cond b (name_in ms n ∷ []) []) ≡ (b && same_name q (name_in ms n))
       one true = or_false (same_name q (name_in ms n))
       one false = refl

@@ -5,11 +5,14 @@ use std::alloc::Global;
 use std::fmt::Write;
 use std::test::Fail;
 
-const FIRST: &str = "dim Year\n.Jan\n.Feb\ndim Market\n.NY\n.CA\ncell Jan|NY|10.5\ncell Feb|NY|-0.25\ncell Jan|CA|2\ncolumns Jan|Feb|Year\nrows NY|Market\n";
+const FIRST: &str =
+    "dim Year\n.Jan\n.Feb\ndim Market\n.NY\n.CA\ncell Jan|NY|10.5\ncell Feb|NY|-0.25\ncell Jan|CA|2\ncolumns Jan|Feb|Year\nrows NY|Market\n";
 
-const FIRST_GRID: &str = "GRID 1 commit 0 rows 2 columns 3\n\tJan\tFeb\tYear\nNY\t10.5000\t-0.2500\t10.2500\nMarket\t12.5000\t-0.2500\t12.2500\nEND 1\n";
+const FIRST_GRID: &str =
+    "GRID 1 commit 0 rows 2 columns 3\n\tJan\tFeb\tYear\nNY\t10.5000\t-0.2500\t10.2500\nMarket\t12.5000\t-0.2500\t12.2500\nEND 1\n";
 
-const USAGE: &str = "usage: aso eval SHEET, create DIR OUTLINE, run DIR SCRIPT, check DIR, sample DIR NUMBER CELLS, serve DIR [--rounds N] SCRIPT...\n";
+const USAGE: &str =
+    "usage: aso eval SHEET, create DIR OUTLINE, run DIR SCRIPT, check DIR, sample DIR NUMBER CELLS, serve DIR [--rounds N] SCRIPT...\n";
 
 const NOT_PLAIN: &str = "ERROR 0 201 syntax: byte 0\n";
 
@@ -42,16 +45,52 @@ const NEVER: u64 = 1_000_000;
 fn a_run_ends_as_its_words_its_library_and_its_sink_have_it(rt: HostRuntime) -> Result<(), Fail> {
     let alloc = rt.alloc();
     let cases = [
-        (["eval", "s"].as_slice(), NEVER, NEVER, Status::Done, FIRST_GRID),
+        (
+            ["eval", "s"].as_slice(),
+            NEVER,
+            NEVER,
+            Status::Done,
+            FIRST_GRID,
+        ),
         ([].as_slice(), NEVER, NEVER, Status::Usage, USAGE),
         (["eval"].as_slice(), NEVER, NEVER, Status::Usage, USAGE),
-        (["eval", "s", "s"].as_slice(), NEVER, NEVER, Status::Usage, USAGE),
+        (
+            ["eval", "s", "s"].as_slice(),
+            NEVER,
+            NEVER,
+            Status::Usage,
+            USAGE,
+        ),
         (["eval", ""].as_slice(), NEVER, NEVER, Status::Usage, USAGE),
-        (["eval", "-s"].as_slice(), NEVER, NEVER, Status::Usage, USAGE),
+        (
+            ["eval", "-s"].as_slice(),
+            NEVER,
+            NEVER,
+            Status::Usage,
+            USAGE,
+        ),
         (["Eval", "s"].as_slice(), NEVER, NEVER, Status::Usage, USAGE),
-        (["check", "s"].as_slice(), NEVER, NEVER, Status::Usage, USAGE),
-        (["eval", "t\t"].as_slice(), NEVER, NEVER, Status::Refused, "ERROR 0 206 no such text: t?\n"),
-        (["eval", "s"].as_slice(), 0, NEVER, Status::Library, "ERROR 0 304 library fault\n"),
+        (
+            ["check", "s"].as_slice(),
+            NEVER,
+            NEVER,
+            Status::Usage,
+            USAGE,
+        ),
+        (
+            ["eval", "t\t"].as_slice(),
+            NEVER,
+            NEVER,
+            Status::Refused,
+            "ERROR 0 206 no such text: t?\n",
+        ),
+        (
+            ["eval", "s"].as_slice(),
+            0,
+            NEVER,
+            Status::Library,
+            "ERROR 0 304 library fault\n",
+        ),
         (["eval", "s"].as_slice(), 1, NEVER, Status::Done, FIRST_GRID),
         (["eval", "s"].as_slice(), NEVER, 0, Status::Sink, ""),
         (["eval", "s"].as_slice(), 0, 0, Status::Sink, ""),
@@ -126,14 +165,20 @@ fn grids_of_plain_sheets(rt: HostRuntime) -> Result<(), Fail> {
     let alloc = rt.alloc();
     let cases = [
         // dimensions without members below them, and no cell
-        ("dim A\ndim B\ncolumns A\nrows B\n", "GRID 1 commit 0 rows 1 columns 1\n\tA\nB\t#Missing\nEND 1\n"),
+        (
+            "dim A\ndim B\ncolumns A\nrows B\n",
+            "GRID 1 commit 0 rows 1 columns 1\n\tA\nB\t#Missing\nEND 1\n",
+        ),
         // three levels; cells that are summed, in any order of their names; a sum of zero; a third dimension at its own member
         (
             "dim A\n.a\n..x\n..y\n.z\ndim B\n.b\ndim C\n.c\n.d\ncell x|b|c|1\ncell d|b|x|-1\ncell b|c|y|.5\ncolumns A|a|x|y|z\nrows B|b|b\n",
             "GRID 1 commit 0 rows 3 columns 5\n\tA\ta\tx\ty\tz\nB\t0.5000\t0.5000\t0.0000\t0.5000\t#Missing\nb\t0.5000\t0.5000\t0.0000\t0.5000\t#Missing\nb\t0.5000\t0.5000\t0.0000\t0.5000\t#Missing\nEND 1\n",
         ),
         // the greatest amount that is plain
-        ("dim A\ndim B\ncell A|B|999999999.9999\ncolumns A\nrows B\n", "GRID 1 commit 0 rows 1 columns 1\n\tA\nB\t999999999.9999\nEND 1\n"),
+        (
+            "dim A\ndim B\ncell A|B|999999999.9999\ncolumns A\nrows B\n",
+            "GRID 1 commit 0 rows 1 columns 1\n\tA\nB\t999999999.9999\nEND 1\n",
+        ),
     ];
     for (text, grid) in cases {
         let (ended, printed) = ran(alloc, &["eval", "s"], text, NEVER, NEVER)?;
@@ -173,7 +218,11 @@ fn sheets_at_the_limits_are_plain_and_those_past_them_are_not(rt: HostRuntime) -
     for (members, cells, columns, status) in cases {
         let text = sheet_of(alloc, members, cells, columns)?;
         let (ended, _) = ran(alloc, &["eval", "s"], &text, NEVER, NEVER)?;
-        assert_eq!(rt; ended, status, "at {members} members, {cells} cells, {columns} columns");
+        assert_eq!(rt;
+            ended,
+            status,
+            "at {members} members, {cells} cells, {columns} columns"
+        );
     }
     Ok(())
 }
