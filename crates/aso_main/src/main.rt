@@ -1,14 +1,13 @@
 //! The program `aso`: its words, the files that they name and the standard output, handed to the top call.
 #![tactic(auto)]
 
-mod library;
-mod standard;
+ghost use Rattle.std.specs.Prelude.{◌≡◌, ◌⊎◌};
+ghost use Rattle.aso_disk.specs.Causes.{Rose};
 
 use aso_disk::{Sink, Trouble};
+use aso_files::{FolderLibrary, RealSink};
 use aso_num::Status;
 use aso_top::run;
-use library::FolderLibrary;
-use standard::Standard;
 use std::alloc::AllocError;
 use std::env;
 use std::io::ErrorKind;
@@ -26,7 +25,10 @@ fn words(rt: &HostRuntime) -> Result<Vec<String>, AllocError> {
     }
 }
 
-fn no_memory<K: Sink>(out: &mut K) -> Status {
+fn no_memory<K: Sink>(out: &mut K) -> Status
+    ensures sink { result ≡ Status.Sink → Rose (K.faults out.old) (K.faults out.new) }
+    ensures memory { (result ≡ Status.Sink) ⊎ (result ≡ Status.NoMemory) }
+{
     match out.put(b"ERROR 0 401 no memory\n") {
         Err(Trouble::Failed) => Status::Sink,
         _ => Status::NoMemory,
@@ -34,8 +36,12 @@ fn no_memory<K: Sink>(out: &mut K) -> Status {
 }
 
 fn main(rt: HostRuntime) -> ExitCode {
-    let mut out = Standard::new(&rt);
-    let mut library = FolderLibrary::new(&rt);
+    let Ok(mut out) = RealSink::standard(&rt) else {
+        unreachable!()
+    };
+    let Ok(mut library) = FolderLibrary::open(&rt) else {
+        unreachable!()
+    };
     let status = match words(&rt) {
         Ok(words) => run(rt.alloc(), &words, &mut library, &mut out),
         Err(_) => no_memory(&mut out),

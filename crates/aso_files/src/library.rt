@@ -1,13 +1,16 @@
-// Files by their paths as a library.
+ghost use Rattle.std.specs.Prelude.{IsOk};
+
+use crate::count::count;
 use aso_disk::{Library, Trouble};
 use std::alloc::Global;
 use std::fs;
 use std::io::ErrorKind;
 use std::rt::Files;
 
+/// The greatest size of a text, in bytes.
 const LONGEST: usize = 4_294_967_295;
 
-/// The files of the folder that the program runs in, each under its path. It doesn't tell what they hold.
+/// Texts that are files, each under its path. It tells no proof what they hold.
 #[derive(Drop)]
 pub struct FolderLibrary<'a, R: Files + Alloc<A = Global>> {
     rt: &'a R,
@@ -15,8 +18,11 @@ pub struct FolderLibrary<'a, R: Files + Alloc<A = Global>> {
 }
 
 impl<'a, R: Files + Alloc<A = Global>> FolderLibrary<'a, R> {
-    pub fn new(rt: &'a R) -> FolderLibrary<'a, R> {
-        FolderLibrary { rt, faults: 0 }
+    /// The files that the program reaches by their paths.
+    pub fn open(rt: &'a R) -> Result<FolderLibrary<'a, R>, Trouble>
+        ensures { IsOk result }
+    {
+        Ok(FolderLibrary { rt, faults: 0 })
     }
 }
 
@@ -33,16 +39,16 @@ impl<'a, R: Files + Alloc<A = Global>> Library for FolderLibrary<'a, R> {
 
     ghost same_trans = { λ first second third p q. tt };
 
-    /// A path that names no file has no text. A folder, a path through a file, and a file past the longest text are
-    /// failures.
+    /// A path that names no file has no text. A folder, a path through a file or with a NUL byte, and a file past the
+    /// longest text are failures.
     fn text(&mut self, name: &str) -> Result<Option<Vec<u8>>, Trouble> {
         match fs::read(self.rt, name) {
             Ok(text) if text.len() <= LONGEST => Ok(Some(text)),
             Err(error) if error.kind() == ErrorKind::NotFound => Ok(None),
             Err(error) if error.kind() == ErrorKind::OutOfMemory => Err(Trouble::NoMemory),
             _ => {
-                self.faults = self.faults.saturating_add(1);
-                Err(Trouble::Failed)
+                let failed = count(&mut self.faults);
+                Err(Trouble::from(failed))
             }
         }
     }
