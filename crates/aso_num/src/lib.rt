@@ -7,7 +7,7 @@ mod status;
 mod text;
 mod value;
 
-pub use amount::{Amount, NumberFault, parse_amount};
+pub use amount::{Amount, NumberFault, digits_len, parse_amount};
 pub use aso_memory::NoMemory;
 pub use list::List;
 pub use status::Status;

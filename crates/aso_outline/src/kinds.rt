@@ -52,7 +52,7 @@ fn is_skip(draft: &Draft, seat: Seat) -> bool
     }
 }
 
-/// No formula, and the operator `+`, or `~` for a root or beneath a label-only parent.
+/// No formula, and the operator `+`; beneath a label-only parent, and for a root, `~` serves as well.
 fn is_stored_kind(draft: &Draft, seat: Seat) -> bool
     ensures { result ≡ is_stored_kind draft.now seat }
 {

@@ -51,7 +51,7 @@ pub fn resolve(draft: &Draft, seat: Seat) -> Seat
     }
 }
 
-/// What it stands for has a formula, or is a parent in a dynamic hierarchy.
+/// What it stands for has a formula or, in a dynamic hierarchy, children.
 pub fn is_computed(draft: &Draft, seat: Seat) -> bool
     requires { HasTrees draft.now }
     ensures { result ≡ is_computed draft.now seat }

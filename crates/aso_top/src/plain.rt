@@ -1,12 +1,12 @@
 // Which lines of an outline and which amounts are plain.
 ghost use Rattle.std.specs.Prelude.{◌≡◌, ◌==◌, ◌≤◌, true, false, length, map, Ok, IfSome, IfNone};
 ghost use Rattle.std.specs.List.{count_by, list_all};
-ghost use Rattle.aso_num.specs.AmountText.{amount_of, parts_of, digits_len};
+ghost use Rattle.aso_num.specs.AmountText.{amount_of, parts_of};
 ghost use Rattle.aso_spec.specs.Plain.{is_name_byte, is_name, are_nested, are_plain_members, is_plain_amount};
 ghost use Rattle.aso_top.specs.Raw.{member};
 
 use crate::reading::RawMember;
-use aso_num::{Amount, parse_amount};
+use aso_num::{Amount, digits_len, parse_amount};
 use std::str;
 
 const MOST_MEMBERS: usize = 64;
@@ -93,18 +93,6 @@ pub fn are_plain_members(members: &[RawMember]) -> bool
         && dims_len(members) <= MOST_DIMS
         && are_nested(members)
         && are_named(members)
-}
-
-fn digits_len(text: &[u8]) -> usize
-    ensures value { result ≡ digits_len text.now }
-    ensures within { result ≤ length text.now }
-{
-    for (i, b) in text.iter().enumerate() {
-        if !(b'0' <= *b && *b <= b'9') {
-            return i;
-        }
-    }
-    text.len()
 }
 
 // How many digits stand before the point.
