@@ -97,7 +97,7 @@ sizes = refl
 orders : map (solve_of basic) (Inner 1 2 0 ∷ Inner 2 0 3 ∷ []) ≡ (10 ∷ 20 ∷ [])
 orders = refl
 
--- Geo over A and B, where A has the child A1 alone
+-- Geo has the children A and B; A1 stands below A
 abbrev geo : Draft
 geo = outline (dim (codes "Geo") (stored (m root (codes "Geo") ∷ m 0 (codes "A") ∷ m 1 (codes "A1") ∷ m 0 (codes "B") ∷ []) ∷ []) ∷ []) []
 

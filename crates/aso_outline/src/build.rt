@@ -61,7 +61,7 @@ fn raised(members: &[DraftMember], forest: &Forest, place: u32, top: u32) -> u32
     if top < height { height } else { top }
 }
 
-/// The greatest height of a member that isn't label only.
+/// The height of its highest member without a label-only mark.
 fn top_height(members: &[DraftMember], forest: &Forest) -> u32
     requires short { length members.now < 2 ^ 32 }
     requires forest { forest.now ≡ parents_of members.now }

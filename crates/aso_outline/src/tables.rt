@@ -8,7 +8,7 @@ pub struct TreeTable {
     /// The number of its root.
     pub first: u32,
     pub forest: Forest,
-    /// The greatest height of a member that isn't label only.
+    /// The height of its highest member without a label-only mark.
     pub top: u32,
     /// Of each data leaf, by ordinal, the place of the first member that shares it; and of each place the data leaf that is
     /// shared there.
