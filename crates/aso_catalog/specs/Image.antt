@@ -1,6 +1,7 @@
 -- The catalog's device: two areas, each a gate byte, a body's length and the body.
 use Rattle.std.specs.Prelude.{ℕ, ◌+◌, ◌-◌, ◌*◌, ◌<◌, ◌≤◌, ◌≡◌, ◌≢◌, ◌⊎◌, Bool, true, false, List, take, drop, length, Option, Some, None, IfSome, slice_index, nat_lt, ◌==◌, if◌then◌else◌}
 use Rattle.std.specs.Int.{from_be_bytes, w32, w64}
+use Rattle.std.specs.Option.{ForSome}
 use Rattle.aso_disk.specs.Slots.{piece}
 use Rattle.aso_catalog.specs.declared.record.Record.{Record}
 use Rattle.aso_catalog.specs.Record.{IsRecord}
@@ -98,3 +99,14 @@ pub record SomeImage (told : Option (List ℕ)) (P : List ℕ → Type 0) : Type
   pub image : List ℕ
   pub is_told : IfSome told (λ seen. image ≡ seen)
   pub has : P image
+
+-- from some moment between old and new on, a crash leaves an image with P
+pub record FromSync {D : Type 0} (moment : D → ℕ) (left : D → ℕ → List ℕ → Type 0) (old new : D) (P : List ℕ → Type 0) : Type 0 where
+  pub at : ℕ
+  pub from : moment old ≤ at
+  pub to : at ≤ moment new
+  pub each : (k : ℕ) (c : List ℕ) → at ≤ k → k ≤ moment new → left new k c → P c
+
+-- the bytes that a device tells, where it tells them
+abbrev pub IsSeen : Option (List ℕ) → List ℕ → Type 0
+IsSeen told image = ForSome told (λ seen. image ≡ seen)

@@ -2,7 +2,7 @@ ghost use Rattle.std.specs.Prelude.{◌≡◌, ◌≢◌, ◌⊎◌, ◌+◌, �
 ghost use Rattle.std.specs.Int.{to_be_bytes, w32};
 ghost use Rattle.aso_disk.specs.Causes.{HasCause, Rose};
 ghost use Rattle.aso_disk.specs.Slots.{Runs, Still, overwrite};
-ghost use Rattle.aso_catalog.specs.Image.{OpensWith, IsBody, IsCatalog, SomeImage};
+ghost use Rattle.aso_catalog.specs.Image.{FromSync, OpensWith, IsBody, IsCatalog, SomeImage};
 ghost use Rattle.aso_catalog.specs.Opening.{IsDamage};
 
 use crate::Record;
@@ -46,6 +46,9 @@ impl<C: Slots> Catalog<C> {
         ensures settled { IfOk result (λ p. IsSettled p.0) }
         ensures damaged { IfErr result (λ e. SomeImage (C.seen slots) (λ image. IsDamage image e.1)) }
         ensures short { IfErr result (λ e. (size : ℕ) → e.1 ≡ CatalogFault.Short size → (size ≡ C.extent slots) × (size < 262144)) }
+
+        // From the sync on, a crash leaves what is opened with the record. Until then, what it might have left before.
+        ensures synced { IfOk result (λ p. FromSync C.moment C.left slots (device_of p.0) (IsBefore p.0)) }
 
         // The device keeps its bytes, and what crashes leave of them.
         ensures seen { IfOk result (λ p. C.seen (device_of p.0) ≡ C.seen slots) }

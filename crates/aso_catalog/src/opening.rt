@@ -2,7 +2,7 @@ ghost use Rattle.std.specs.Prelude.{◌≡◌, ◌<◌, ◌≤◌, IfOk, IfErr, 
 ghost use Rattle.aso_disk.specs.Causes.{Rose};
 ghost use Rattle.aso_disk.specs.Slots.{Only, Runs, Still};
 ghost use Rattle.aso_catalog.specs.Faults.{OnBad};
-ghost use Rattle.aso_catalog.specs.Image.{SomeImage};
+ghost use Rattle.aso_catalog.specs.Image.{FromSync, IsSeen, SomeImage};
 ghost use Rattle.aso_catalog.specs.Opening.{HasLayout, IsAreaFault, IsBad, IsShortOrFault, IsChoice, IsFound, IsOpening, IsDamage, ReadsArea};
 
 use crate::fault::CatalogFault;
@@ -98,6 +98,7 @@ fn measure<C: Slots>(slots: &mut C) -> Result<(), CatalogFault>
     ensures short { (size : ℕ) → IsErrOf result (CatalogFault.Short size) → (size ≡ C.extent slots.old) × (size < 262144) }
     ensures others { IfErr result IsShortOrFault }
     ensures durable { OnOk result (IfSome (C.seen slots.new) (λ b. Only b (C.left slots.new (C.moment slots.new)))) }
+    ensures synced { OnOk result (FromSync C.moment C.left slots.old slots.new (IsSeen (C.seen slots.old))) }
     ensures seen { C.seen slots.new ≡ C.seen slots.old }
     ensures extent { C.extent slots.new ≡ C.extent slots.old }
     ensures crash { Runs Still (C.moment slots.old) (C.moment slots.new) (C.left slots.old) (C.left slots.new) }
@@ -163,6 +164,7 @@ pub(crate) fn survey<C: Slots>(
     ensures damaged { IfErr result (λ e. SomeImage (C.seen slots.old) (λ image. IsDamage image e)) }
     ensures short { (size : ℕ) → IsErrOf result (CatalogFault.Short size) → (size ≡ C.extent slots.old) × (size < 262144) }
     ensures durable { OnOk result (IfSome (C.seen slots.new) (λ b. Only b (C.left slots.new (C.moment slots.new)))) }
+    ensures synced { OnOk result (FromSync C.moment C.left slots.old slots.new (IsSeen (C.seen slots.old))) }
     ensures seen { C.seen slots.new ≡ C.seen slots.old }
     ensures extent { C.extent slots.new ≡ C.extent slots.old }
     ensures crash { Runs Still (C.moment slots.old) (C.moment slots.new) (C.left slots.old) (C.left slots.new) }

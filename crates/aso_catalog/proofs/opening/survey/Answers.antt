@@ -1,6 +1,8 @@
 use Rattle.std.proofs.Common.{◌≤◌, List, ℕ, Option, Err, length, ◌∙◌, ap, subst, arith}
 use Rattle.aso_catalog.specs.declared.fault.CatalogFault.{CatalogFault}
 use Rattle.std.specs.Option.{ForSome}
+use Rattle.aso_catalog.specs.Image.{IsSeen}
+use Rattle.aso_catalog.proofs.Since.{from_sync_then}
 use Rattle.aso_catalog.specs.Opening.{IsAreaFault, IsFound, ReadsArea}
 use Rattle.aso_catalog.proofs.Opened.{short_damage, first_damage, second_damage, twin_damage, some_opening}
 use Rattle.aso_catalog.proofs.opening.survey.Goals as goal
@@ -49,3 +51,9 @@ returns-in-Err-choose-clause-damaged g c =
     twin_damage told c.in-Err-choose.layout c.in-Ok.first c.in-Ok-read_area.second
     (subst (λ (o : Option (List ℕ)). ReadsArea 0 o (λ bytes. IsFound bytes c.in-Ok.first)) c.measure.ensures.seen c.in-Ok.ensures.found)
     (subst (λ (o : Option (List ℕ)). ReadsArea 1 o (λ bytes. IsFound bytes c.in-Ok-read_area.second)) (c.read_area.ensures.seen ∙ c.measure.ensures.seen) c.in-Ok-read_area.ensures.found) twin.0 twin.1 big
+
+pub returns-in-Ok-choose-clause-synced : goal.returns-in-Ok-choose-clause-synced
+returns-in-Ok-choose-clause-synced g c =
+    let seen = IsSeen (g.C.Slots.seen c.args.slots.now) in
+    from_sync_then g.C.Slots.moment g.C.Slots.left c.args.slots.now c.read_area.new.slots c.read_area-2.new.slots seen
+    (from_sync_then g.C.Slots.moment g.C.Slots.left c.args.slots.now c.measure.new.slots c.read_area.new.slots seen c.in_default.ensures.synced c.read_area.ensures.crash) c.read_area-2.ensures.crash

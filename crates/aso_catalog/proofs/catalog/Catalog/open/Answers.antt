@@ -1,7 +1,7 @@
-use Rattle.std.proofs.Common.{◌≡◌, ◌-◌, ℕ, List, Option, Some, sym, ◌∙◌, ap, subst, arith}
+use Rattle.std.proofs.Common.{◌≡◌, inl, ◌-◌, ℕ, List, Option, Some, sym, ◌∙◌, ap, subst, arith}
 use Rattle.std.specs.Prelude.{IfSome, not}
 use Rattle.aso_disk.specs.Slots.{Only}
-use Rattle.aso_catalog.specs.Image.{area, body_of, layout_of, open_body}
+use Rattle.aso_catalog.specs.Image.{area, body_of, layout_of, open_body, OpensWith}
 use Rattle.aso_catalog.specs.Opening.{IsOpening}
 use Rattle.aso_catalog.proofs.Opened.{is_catalog, opens, older, record_is, some_any, told_is}
 use Rattle.aso_catalog.proofs.catalog.Catalog.open.Goals as goal
@@ -51,3 +51,20 @@ returns-in-Ok-survey-clause-settled g c = λ e s now.
     let low = older some.image choice.current choice.layout choice.present choice.shut choice.found some.has e in
     let is : layout_of (body_of (area (1 - choice.current) some.image)) ≡ layout_of (body_of (area (1 - choice.current) s)) = ap (λ (l : List ℕ). layout_of (body_of (area (1 - choice.current) l))) same in
     omega (arith, low, is)
+
+pub returns-in-Ok-survey-clause-synced : goal.returns-in-Ok-survey-clause-synced
+returns-in-Ok-survey-clause-synced g c =
+    let choice = c.in-Ok-survey.choice in
+    let some = c.in-Ok-survey.ensures.found in
+    let synced = c.in-Ok-survey.ensures.synced in
+    let all = opens some.image choice.current choice.layout choice.present choice.shut choice.found some.has in
+    record {
+      at = synced.at;
+      from = synced.from;
+      to = synced.to;
+      each = λ k x from to is s now.
+          let was = sym c.survey.ensures.seen ∙ now in
+          let same = told_is (g.C.Slots.seen c.args.slots) some.image s some.is_told was in
+          let here : OpensWith s (open_body (area choice.current s)) = subst (λ (l : List ℕ). OpensWith l (open_body (area choice.current l))) same all in
+          inl (subst (λ (l : List ℕ). OpensWith l (open_body (area choice.current s))) (sym (synced.each k x from to is s was)) here);
+    }
