@@ -255,6 +255,40 @@ fn a_failed_call_leaves_the_record_or_a_doubt(rt: HostRuntime) -> Result<(), Fai
 }
 
 #[test]
+fn a_doubt_may_come_back_until_its_gate_is_closed(rt: HostRuntime) -> Result<(), Fail> {
+    let alloc = rt.alloc();
+    // the sync behind the write of the gate fails
+    let mut catalog = with_two(alloc, vec![in alloc; 17u64]?)?;
+    let in_doubt = Err(PublishFault::Fault { in_doubt: true });
+    assert_eq!(rt; publish(alloc, &mut catalog, 3)?, in_doubt);
+    assert_eq!(rt; publish(alloc, &mut catalog, 4)?, Ok(()));
+    let slots = catalog.into_slots();
+    // the call, the pick, and the amount
+    let cases = [
+        (16, 0, 2),
+        (16, 1, 3),
+        (17, 1, 3),
+        (18, 0, 2),
+        (18, 1, 2),
+        (19, 1, 2),
+        (20, 1, 2),
+        (21, 1, 2),
+        (22, 0, 2),
+        (22, 1, 4),
+        (23, 1, 4),
+        (24, 0, 4),
+    ];
+    for (call, pick, amount) in cases {
+        assert_eq!(rt;
+            amount_after(alloc, &slots, call, pick)?,
+            Some(amount),
+            "in call {call}, pick {pick}"
+        );
+    }
+    Ok(())
+}
+
+#[test]
 fn a_damaged_catalog_is_refused(rt: HostRuntime) -> Result<(), Fail> {
     let alloc = rt.alloc();
     let good: (usize, &[u8]) = (0, b"\x01\0\0\0\x2b");

@@ -71,8 +71,8 @@ impl MemSlots {
     }
 
     /// A device with one image that a crash within a call, counted from 0, may leave, or where there was no such call,
-    /// after all of them. Of each write that no sync followed, the first bytes arrived: as many as `pick` has left when
-    /// it is divided by one more than the write had.
+    /// after all of them. Another `pick` may give another image; it has the first bytes of each write that no sync
+    /// followed, which is shown by tests alone.
     pub fn crash(&self, at_call: u64, pick: u64) -> Result<MemSlots, NoMemory>
         ensures image { IfOk result (λ slots. LeftWithin (calls_of self.now) (start_of self.now) at_call (bytes_of slots)) }
         ensures start { IfOk result (λ slots. start_of slots ≡ bytes_of slots) }

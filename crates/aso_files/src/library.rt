@@ -1,5 +1,3 @@
-ghost use Rattle.std.specs.Prelude.{IsOk};
-
 use crate::count::count;
 use aso_disk::{Library, Trouble};
 use std::alloc::Global;
@@ -18,9 +16,12 @@ pub struct FolderLibrary<'a, R: Files + Alloc<A = Global>> {
 }
 
 impl<'a, R: Files + Alloc<A = Global>> FolderLibrary<'a, R> {
+    ghost use Rattle.std.specs.Prelude.{◌≡◌, IsOk, IfOk};
+
     /// The files that the program reaches by their paths.
     pub fn open(rt: &'a R) -> Result<FolderLibrary<'a, R>, Trouble>
-        ensures { IsOk result }
+        ensures ok { IsOk result }
+        ensures faults { IfOk result (λ library. ⟦<FolderLibrary<'a, R> as Library>⟧.faults library ≡ 0) }
     {
         Ok(FolderLibrary { rt, faults: 0 })
     }

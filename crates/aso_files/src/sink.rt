@@ -19,11 +19,12 @@ enum Target<'a, R: Print> {
 }
 
 impl<'a, R: Print> RealSink<'a, R> {
-    ghost use Rattle.std.specs.Prelude.{IsOk};
+    ghost use Rattle.std.specs.Prelude.{◌≡◌, IsOk, IfOk};
 
     /// The standard output.
     pub fn standard(rt: &'a R) -> Result<RealSink<'a, R>, Trouble>
-        ensures { IsOk result }
+        ensures ok { IsOk result }
+        ensures faults { IfOk result (λ sink. ⟦<RealSink<'a, R> as Sink>⟧.faults sink ≡ 0) }
     {
         Ok(RealSink {
             target: Target::Standard(rt),
@@ -33,8 +34,13 @@ impl<'a, R: Print> RealSink<'a, R> {
 }
 
 impl<'a, R: Print + Files<File = File>> RealSink<'a, R> {
-    /// A file, which is made empty first, or made where it is missing.
-    pub fn file(rt: &'a R, path: &str) -> Result<RealSink<'a, R>, Trouble> {
+    ghost use Rattle.std.specs.Prelude.{◌≡◌, None, IfOk};
+
+    /// A file, which is made empty first, or made where it is missing. An error leaves no sink, so no count tells of it.
+    pub fn file(rt: &'a R, path: &str) -> Result<RealSink<'a, R>, Trouble>
+        ensures faults { IfOk result (λ sink. ⟦<RealSink<'a, R> as Sink>⟧.faults sink ≡ 0) }
+        ensures untold { IfOk result (λ sink. ⟦<RealSink<'a, R> as Sink>⟧.written sink ≡ None) }
+    {
         match fs::create(rt, path) {
             Ok(file) => Ok(RealSink {
                 target: Target::File(file),

@@ -20,12 +20,18 @@ pub struct FileSlots {
 }
 
 impl FileSlots {
+    ghost use Rattle.std.specs.Prelude.{◌≡◌, None, IfOk};
+
     /// Opens the file of a catalog. A missing one is made whole first: its 262,144 zero bytes are written under the name
-    /// with `.new` behind it and synced, the file is renamed, and its folder is synced.
+    /// with `.new` behind it and synced, the file is renamed, and its folder is synced. An error leaves no device, so no
+    /// count tells of it.
     pub fn open<R: Files<File = File> + AllocGlobal>(
         rt: &R,
         path: &str,
-    ) -> Result<FileSlots, Trouble> {
+    ) -> Result<FileSlots, Trouble>
+        ensures faults { IfOk result (λ slots. ⟦<FileSlots as Slots>⟧.faults slots ≡ 0) }
+        ensures untold { IfOk result (λ slots. ⟦<FileSlots as Slots>⟧.seen slots ≡ None) }
+    {
         let file = match opened(rt, path) {
             Ok(file) => file,
             Err(error) => {
