@@ -12,6 +12,7 @@ use Rattle.aso_outline.specs.Members.{seats, resolve, leaf_names}
 use Rattle.aso_outline.specs.Classes.{carries, class_at, classes_at, is_stored, leaf_count, leaf_of, leaf_seat}
 use Rattle.aso_outline.specs.Heights.{first_child_of, height_of, next_child_of, top_of}
 use Rattle.aso_outline.specs.Marks.{solve_of}
+use Rattle.aso_outline.specs.Ranks.{named}
 use Rattle.aso_outline.specs.Numbers.{dim_ref, hier_of, root_of, seat_of}
 use Rattle.aso_outline.proofs.Basic.{basic, dim, m, outline, root, stored}
 
@@ -90,6 +91,7 @@ next_children = refl
 
 -- NY is Large, MA is Small, and both have a Size
 sizes : map (λ leaf. map (λ i. carries basic 1 leaf (Carried 0 i)) (0 ∷ 1 ∷ 2 ∷ [])) (0 ∷ 1 ∷ []) ≡ ((true ∷ true ∷ false ∷ []) ∷ (true ∷ false ∷ true ∷ []) ∷ [])
+unfolding named seats
 sizes = refl
 
 orders : map (solve_of basic) (Inner 1 2 0 ∷ Inner 2 0 3 ∷ []) ≡ (10 ∷ 20 ∷ [])

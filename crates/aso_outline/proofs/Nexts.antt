@@ -25,7 +25,7 @@ next_within parents ms i k same is =
 
 -- ---- heights
 
-bounded : (f : ℕ → ℕ) (t : ℕ → Bool) (n a b most : ℕ) → b ≤ most → ((k : ℕ) → a ≤ k → k < a + n → f k ≤ most) → fold max b (map f (filter t (range_with_len a n))) ≤ most
+pub bounded : (f : ℕ → ℕ) (t : ℕ → Bool) (n a b most : ℕ) → b ≤ most → ((k : ℕ) → a ≤ k → k < a + n → f k ≤ most) → fold max b (map f (filter t (range_with_len a n))) ≤ most
 bounded f t zero a b most base each = base
 bounded f t (suc n) a b most base each =
     let here : f a ≤ most = each a (omega arith) (omega arith) in

@@ -5,7 +5,7 @@ use Rattle.std.specs.List.{list_all, position}
 use Rattle.std.proofs.Common.{◌≡◌, ◌∙◌, ℕ, zero, suc, ◌+◌, ◌<◌, ◌≤◌, ◌&&◌, ◌⊎◌, ⊎_elim, Bool, true, false, not, List, [], ◌∷◌, drop, length, length-drop, Option, Some, None, refl, sym, ap, arith, true≢false}
 use Rattle.std.proofs.lemmas.Bool.{leb-true}
 use Rattle.std.proofs.lemmas.Option.{none-some, same_Some}
-use Rattle.aso_tree.specs.Trees.{is_leaf, IsTree}
+use Rattle.aso_tree.specs.Trees.{is_leaf, places_of, IsTree}
 use Rattle.aso_tree.proofs.Ends.{childless}
 use Rattle.aso_outline.specs.declared.draft.Draft.{Draft}
 use Rattle.aso_outline.specs.declared.draft.DraftAttr.{DraftAttr}
@@ -18,7 +18,7 @@ use Rattle.aso_outline.specs.Kept.{HasRoots}
 use Rattle.aso_outline.specs.Members.{attr_tree, dim_at, member_is, no_dim, parents_of, past_labels, resolve, seats, tree}
 use Rattle.aso_outline.specs.Numbers.{IsSeat}
 use Rattle.aso_outline.specs.Parents.{one_parent_each}
-use Rattle.aso_outline.specs.Rules.{Rule, breaks_labels, broken, first_broken, has_counts, has_members, is_counted_attr, is_counted_dim, is_within, least, rules}
+use Rattle.aso_outline.specs.Rules.{Rule, breaks_labels, breaks_sharing, broken, least_repeat, own_names, repeats, first_broken, has_counts, has_members, is_counted_attr, is_counted_dim, is_within, least, rules}
 use Rattle.aso_outline.specs.Small.{HasTrees}
 use Rattle.aso_outline.proofs.AtSeats.{none_at}
 use Rattle.aso_outline.proofs.Kept.{kept_first}
@@ -34,7 +34,15 @@ each_kept (x ∷ rs) o kept (suc k) r is = each_kept rs o (kept_first x rs o kep
 
 pub kept_labels : (o : Draft) → broken o ≡ None → position (breaks_labels o) (seats o) ≡ None
 unfolding broken
-kept_labels o kept = each_kept rules o kept 7 (8, least breaks_labels) refl
+kept_labels o kept = each_kept rules o kept 8 (8, least breaks_labels) refl
+
+pub kept_sharing : (o : Draft) → broken o ≡ None → position (breaks_sharing o) (seats o) ≡ None
+unfolding broken
+kept_sharing o kept = each_kept rules o kept 6 (6, least breaks_sharing) refl
+
+pub kept_names : (o : Draft) → broken o ≡ None → position (repeats (own_names o)) (places_of (seats o)) ≡ None
+unfolding broken
+kept_names o kept = each_kept rules o kept 3 (3, least_repeat) refl
 
 -- ---- roots
 

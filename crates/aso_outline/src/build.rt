@@ -2,18 +2,20 @@
 ghost use Rattle.std.specs.Prelude.{◌≡◌, ◌+◌, ◌<◌, ◌≤◌, ◌^◌, ◌++◌, ◌∷◌, [], max, not, map, length, None, IfOk, OnOk, if◌then◌else◌};
 ghost use Rattle.std.specs.List.{filter, range_with_len};
 ghost use Rattle.aso_tree.specs.Trees.{height, places_of, IsTree};
-ghost use Rattle.aso_outline.specs.Classes.{leaf_ordinal};
+ghost use Rattle.aso_outline.specs.Classes.{leaf_count, leaf_ordinal, shared_leaf, sharer_of};
 ghost use Rattle.aso_outline.specs.Heights.{top_height};
 ghost use Rattle.aso_outline.specs.Leaves.{is_data_place, ordinal_in};
 ghost use Rattle.aso_outline.specs.Members.{attr_tree, data_leaves, dim_at, member_is, parents_of, seats, tree, tree_of, whole_seats};
 ghost use Rattle.aso_outline.specs.Rules.{broken};
 ghost use Rattle.aso_outline.specs.Small.{HasTrees, IsSmall};
-ghost use Rattle.aso_outline.specs.Tables.{AreEach, AreTables, IsAttrTable, IsDimTable, IsTreeTable, before_attr, before_dim, before_hier};
+ghost use Rattle.aso_outline.specs.Tables.{AreEach, AreLeafNames, AreTables, IsAttrTable, IsDimTable, IsTreeTable, before_attr, before_dim, before_hier};
 
 use crate::draft::{Draft, DraftMember};
 use crate::leaves::is_data_place;
 use crate::seat::Seat;
 use crate::seats::seats;
+use crate::sharers::{leaf_names, leaf_sharers, shared_leaves, sharer_names};
+use crate::table::NameTable;
 use crate::tables::{AttrTable, DimTable, Tables, TreeTable};
 use crate::trees::sound_tree;
 use aso_num::NoMemory;
@@ -95,7 +97,7 @@ fn leaf_places(alloc: Global, members: &[DraftMember]) -> Result<Vec<u32>, NoMem
 }
 
 /// The ordinal of the data leaf at a place, where so many stand before it, and how many stand before the next place.
-fn ordinal_step(members: &[DraftMember], place: u32, before: u32) -> (Option<u32>, u32)
+pub fn ordinal_step(members: &[DraftMember], place: u32, before: u32) -> (Option<u32>, u32)
     requires short { length members.now < 2 ^ 32 }
     requires tree { IsTree (parents_of members.now) }
     requires within { place < length members.now }
@@ -128,22 +130,68 @@ fn ordinals(alloc: Global, members: &[DraftMember]) -> Result<Vec<Option<u32>>, 
     Ok(ordinals)
 }
 
+/// Of each data leaf the place of the first member of a hierarchy that shares it.
+fn sharers(alloc: Global, draft: &Draft, dim: u32, hier: u32) -> Result<Vec<Option<u32>>, NoMemory>
+    requires { HasTrees draft.now }
+    ensures { IfOk result (λ v. v.items ≡ map (sharer_of draft.now dim hier) (range_with_len 0 (leaf_count draft.now dim))) }
+{
+    let own = sound_tree(draft, Seat::Inner { dim, hier, at: 0 });
+    let first = sound_tree(
+        draft,
+        Seat::Inner {
+            dim,
+            hier: 0,
+            at: 0,
+        },
+    );
+    let names = sharer_names(alloc, own)?;
+    let found = leaf_sharers(alloc, first, &names)?;
+    Ok(found)
+}
+
+/// Of each place of a hierarchy the data leaf that is shared there.
+fn shared(
+    alloc: Global,
+    draft: &Draft,
+    names: &NameTable,
+    dim: u32,
+    hier: u32,
+) -> Result<Vec<Option<u32>>, NoMemory>
+    requires trees { HasTrees draft.now }
+    requires names { AreLeafNames draft.now dim names.now }
+    ensures { IfOk result (λ v. v.items ≡ map (shared_leaf draft.now dim hier) (places_of (tree (dim_at draft.now dim) hier))) }
+{
+    let own = sound_tree(draft, Seat::Inner { dim, hier, at: 0 });
+    let found = shared_leaves(alloc, own, names)?;
+    Ok(found)
+}
+
 /// The table of a hierarchy, whose root has this number.
 fn tree_table(
     alloc: Global,
     draft: &Draft,
+    names: &NameTable,
     dim: u32,
     hier: u32,
     first: u32,
 ) -> Result<TreeTable, NoMemory>
     requires trees { HasTrees draft.now }
+    requires names { AreLeafNames draft.now dim names.now }
     requires first { first ≡ before_hier draft.now dim hier }
     ensures { IfOk result (IsTreeTable draft.now dim hier) }
 {
     let members = sound_tree(draft, Seat::Inner { dim, hier, at: 0 });
     let forest = forest(alloc, members)?;
     let top = top_height(members, &forest);
-    Ok(TreeTable { first, forest, top })
+    let sharers = sharers(alloc, draft, dim, hier)?;
+    let shared = shared(alloc, draft, names, dim, hier)?;
+    Ok(TreeTable {
+        first,
+        forest,
+        top,
+        sharers,
+        shared,
+    })
 }
 
 /// The number behind the last member of a hierarchy, whose root has this number.
@@ -192,12 +240,14 @@ fn first_root(draft: &Draft, dim: u32, first: u32) -> u32
 fn tree_tables(
     alloc: Global,
     draft: &Draft,
+    names: &NameTable,
     dim: u32,
     first: u32,
 ) -> Result<(Vec<TreeTable>, u32), NoMemory>
     requires trees { HasTrees draft.now }
     requires small { IsSmall draft.now }
     requires few { length (seats draft.now) < 2 ^ 32 }
+    requires names { AreLeafNames draft.now dim names.now }
     requires dim { dim < length draft.now.dims }
     requires first { first ≡ before_dim draft.now dim }
     ensures { IfOk result (λ r. AreEach (IsTreeTable draft.now dim) (length (dim_at draft.now dim).hiers) r.0.items × (r.1 ≡ before_dim draft.now (dim + 1))) }
@@ -205,7 +255,7 @@ fn tree_tables(
     let mut tables = Vec::new(alloc);
     let mut number = first_root(draft, dim, first);
     for hier in 0..hier_count(draft, dim) {
-        tables.push(tree_table(alloc, draft, dim, hier, number)?)?;
+        tables.push(tree_table(alloc, draft, names, dim, hier, number)?)?;
         number = behind_hier(draft, dim, hier, number);
     }
     Ok((tables, number))
@@ -230,7 +280,8 @@ fn dim_table(alloc: Global, draft: &Draft, dim: u32, first: u32) -> Result<DimTa
     );
     let leaves = leaf_places(alloc, members)?;
     let ordinals = ordinals(alloc, members)?;
-    let (trees, end) = tree_tables(alloc, draft, dim, first)?;
+    let names = leaf_names(alloc, members)?;
+    let (trees, end) = tree_tables(alloc, draft, &names, dim, first)?;
     Ok(DimTable {
         first,
         end,

@@ -10,6 +10,10 @@ pub struct TreeTable {
     pub forest: Forest,
     /// The greatest height of a member that isn't label only.
     pub top: u32,
+    /// Of each data leaf, by ordinal, the place of the first member that shares it; and of each place the data leaf that is
+    /// shared there.
+    pub sharers: Vec<Option<u32>>,
+    pub shared: Vec<Option<u32>>,
 }
 
 /// A base dimension.
