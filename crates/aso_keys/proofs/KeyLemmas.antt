@@ -1,16 +1,14 @@
 -- Keys, and the fields in which they are read.
-use Rattle.std.proofs.Common.{◌≡◌, ◌≢◌, ℕ, zero, suc, ◌+◌, ◌-◌, ◌*◌, ◌/◌, ◌%◌, ◌^◌, ◌<◌, ◌≤◌, List, [], ◌∷◌, ◌++◌, length, take, drop, set, get_or, refl, sym, ◌∙◌, ap, subst, arith}
-use Rattle.std.specs.Prelude.{Option, Some, None, slice_get}
+use Rattle.std.proofs.Common.{◌≡◌, ℕ, zero, suc, ◌+◌, ◌*◌, ◌/◌, ◌%◌, ◌^◌, ◌<◌, ◌≤◌, List, [], ◌∷◌, ◌++◌, length, take, drop, set, get_or, refl, sym, ◌∙◌, ap, subst, arith}
+use Rattle.std.specs.Prelude.{Option, Some, None}
 use Rattle.std.specs.Option.{option_map, option_and_then}
 use Rattle.std.proofs.Math.Seq.{drop-cons, take-suc-set, take-length}
 use Rattle.std.proofs.Math.Pow.{pow_pos}
-use Rattle.std.proofs.Math.Nat.{mul-le-mul_right}
 use Rattle.std.proofs.lemmas.List.{drop_all}
 use Rattle.std.proofs.lemmas.Nat.{pow-add, shr_high, mod_low}
 use Rattle.aso_words.specs.Words.{field_of, with_field}
-use Rattle.aso_words.proofs.FieldLemmas.{parts, field_at}
 use Rattle.aso_keys.specs.declared.axis.Axis.{Axis}
-use Rattle.aso_keys.specs.Axes.{bits_of, AreClasses, key_of, fields_of, entry, class_of, IsAxis, IsCoarser, AreCoarser, ArePlaced, rolled_class, put, rolled}
+use Rattle.aso_keys.specs.Axes.{bits_of, AreClasses, key_of, fields_of, entry, class_of, IsAxis, AreCoarser, ArePlaced, rolled_class, put, rolled}
 
 -- a field above which the number goes on, and behind which it has nothing
 pub put_on_zeros : (m s w v : ℕ) → with_field (m * 2 ^ (w + s)) s w v ≡ (m * 2 ^ w + v) * 2 ^ s

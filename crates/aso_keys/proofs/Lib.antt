@@ -1,3 +1,4 @@
 pub mod KeyLemmas
 pub mod LayoutLemmas
 pub mod BuildLemmas
+pub mod ViewLemmas

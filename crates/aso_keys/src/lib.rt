@@ -5,5 +5,8 @@ mod axis;
 mod build;
 mod keys;
 mod layout;
+mod views;
 
+pub use aso_outline::View;
 pub use layout::Layout;
+pub use views::view_of;

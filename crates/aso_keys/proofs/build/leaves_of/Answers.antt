@@ -1,6 +1,5 @@
-use Rattle.std.proofs.Common.{rules, arith, ◌≡◌, ◌<◌, ◌+◌, ℕ, List, length, get_or, refl, sym, ◌∙◌, ap, subst, Vec, Global}
-use Rattle.std.specs.Prelude.{Option, Some, None}
-use Rattle.aso_keys.specs.Axes.{entry}
+use Rattle.std.proofs.Common.{arith, ◌<◌, ◌+◌, ℕ, List, length, sym, ◌∙◌, ap, subst, Vec, Global}
+use Rattle.std.specs.Prelude.{Option}
 use Rattle.aso_keys.proofs.BuildLemmas.{Given, at_place, given_some, given_more, given_all}
 use Rattle.aso_keys.proofs.build.leaves_of.Goals as goal
 use Rattle.aso_keys.proofs.build.leaves_of.Goals.{in-Some, in_default}

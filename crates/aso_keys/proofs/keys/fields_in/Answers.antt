@@ -1,4 +1,4 @@
-use Rattle.std.proofs.Common.{rules, arith, ◌≡◌, ◌<◌, ℕ, length}
+use Rattle.std.proofs.Common.{rules, arith, ◌≡◌, ◌<◌, length}
 use Rattle.aso_keys.specs.Axes.{fields_of}
 use Rattle.aso_keys.proofs.KeyLemmas.{stands, read_next, all_read, fields_long}
 use Rattle.aso_keys.proofs.keys.fields_in.Goals as goal

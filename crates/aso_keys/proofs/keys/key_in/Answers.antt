@@ -1,4 +1,4 @@
-use Rattle.std.proofs.Common.{rules, arith, ◌≡◌, ◌<◌, ℕ, length, get_or, refl, sym, subst}
+use Rattle.std.proofs.Common.{rules, arith, ◌<◌, ℕ, length, get_or, refl, sym, subst}
 use Rattle.aso_keys.specs.Axes.{key_of}
 use Rattle.aso_keys.proofs.KeyLemmas.{Made, stands, as_many, begun, class_fits, made_next, made_all}
 use Rattle.aso_keys.proofs.keys.key_in.Goals as goal

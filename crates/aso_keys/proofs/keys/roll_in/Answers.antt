@@ -1,7 +1,7 @@
-use Rattle.std.proofs.Common.{rules, arith, ◌≡◌, ◌<◌, ℕ, length, get_or, refl, sym, subst}
-use Rattle.std.specs.Prelude.{Option, Some, None}
+use Rattle.std.proofs.Common.{rules, arith, ◌≡◌, ◌<◌, ℕ, length, sym, subst}
+use Rattle.std.specs.Prelude.{Some}
 use Rattle.aso_keys.specs.Axes.{rolled, rolled_class}
-use Rattle.aso_keys.proofs.KeyLemmas.{Rolling, stands, as_coarse, roll_begun, rolling_next, rolling_none, rolled_fits, rolled_all}
+use Rattle.aso_keys.proofs.KeyLemmas.{Rolling, stands, as_coarse, roll_begun, rolling_next, rolled_fits, rolled_all}
 use Rattle.aso_keys.proofs.keys.roll_in.Goals as goal
 
 pub field-requires : goal.field-requires

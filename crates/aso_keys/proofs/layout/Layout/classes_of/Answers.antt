@@ -1,4 +1,4 @@
-use Rattle.std.proofs.Common.{◌≡◌, ℕ, List, sym, ◌∙◌, ap, subst}
+use Rattle.std.proofs.Common.{◌≡◌, List, ◌∙◌, ap, subst}
 use Rattle.aso_keys.specs.declared.axis.Axis.{Axis}
 use Rattle.aso_keys.specs.Axes.{key_of, fields_of, ArePlaced}
 use Rattle.aso_keys.proofs.LayoutLemmas.{read_back, written_again}

@@ -1,5 +1,4 @@
-use Rattle.std.proofs.Common.{◌≡◌, ℕ, List, sym, ◌∙◌, ap, subst}
-use Rattle.std.specs.Prelude.{Option}
+use Rattle.std.proofs.Common.{◌≡◌, List, ◌∙◌, ap, subst}
 use Rattle.aso_keys.specs.declared.axis.Axis.{Axis}
 use Rattle.aso_keys.specs.Axes.{ArePlaced, rolled}
 use Rattle.aso_keys.proofs.LayoutLemmas.{rolls, nothing_outside}
