@@ -12,7 +12,7 @@ use Rattle.aso_outline.specs.declared.draft.DraftMember.{DraftMember}
 use Rattle.aso_outline.specs.declared.seat.Seat.{Seat}
 use Rattle.aso_outline.specs.declared.seat.Seat.TheVariants.{Whole, Inner, Carried}
 use Rattle.aso_outline.specs.Members.{tree, dim_at, no_dim, seats, data_leaves}
-use Rattle.aso_outline.specs.Rules.{Rule, first_broken, rules, broken, unless, is_plain, is_counted, has_counts, is_within, is_word, is_counted_dim, is_counted_attr, has_members, least, breaks_preorder, breaks_roots, has_data_leaf, is_alone, of_members, of_places, of_trees, of_later, least_repeat, breaks_names}
+use Rattle.aso_outline.specs.Rules.{Rule, first_broken, rules, broken, unless, is_plain, is_counted, has_counts, is_within, is_word, is_counted_dim, is_counted_attr, has_members, least, breaks_preorder, breaks_roots, has_data_leaf, is_alone, of_members, of_places, of_trees, of_sharing, least_repeat, breaks_names}
 use Rattle.aso_outline.specs.Kept.{HasCounts, HasDataLeaves}
 use Rattle.aso_outline.specs.Small.{HasTrees}
 use Rattle.aso_outline.proofs.AtSeats.{none_at, none_whole}
@@ -40,7 +40,7 @@ module _ (o : Draft) (kept : broken o ≡ None) where
   after_preorder = (kept_first (4, least breaks_preorder) of_trees o after_repeat).1
 
   pub kept_roots : position (breaks_roots o) (seats o) ≡ None
-  kept_roots = (kept_first (5, least breaks_roots) of_later o after_preorder).0
+  kept_roots = (kept_first (5, least breaks_roots) of_sharing o after_preorder).0
 
   pub counts_right : has_counts o ≡ true
   counts_right = and_left (has_counts o) _ counted

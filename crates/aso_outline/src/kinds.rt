@@ -60,7 +60,8 @@ fn is_stored_kind(draft: &Draft, seat: Seat) -> bool
         && (is_plus(draft, seat) || is_skip(draft, seat) && is_under_label(draft, seat))
 }
 
-fn is_alternate(seat: Seat) -> bool
+/// The member stands in a hierarchy that isn't the first of its dimension.
+pub fn is_alternate(seat: Seat) -> bool
     ensures { result ≡ is_alternate seat }
 {
     match seat {

@@ -1,14 +1,11 @@
 // The members of an outline by what their numbers stand for.
-ghost use Rattle.std.specs.Prelude.{◌≡◌, is_none};
-ghost use Rattle.aso_outline.specs.Members.{has};
-
-use crate::draft::{Draft, DraftMember};
-use crate::look::member_at;
+use crate::data_leaf::is_data_leaf;
+use crate::draft::DraftMember;
 use crate::outline::Outline;
 use crate::resolve::resolve;
 use crate::seat::Seat;
 use crate::seats::seats;
-use crate::trees::{is_childless, sound_tree};
+use crate::trees::sound_tree;
 use aso_num::NoMemory;
 use std::alloc::Global;
 
@@ -36,11 +33,7 @@ impl Outline {
     pub fn is_data_leaf(&self, seat: Seat) -> bool
         ensures { result ≡ is_data_leaf self.now seat }
     {
-        match seat {
-            Seat::Inner { hier: 0, .. } => is_childless(self.sound_draft(), seat)
-                && is_without_formula(self.sound_draft(), seat),
-            _ => false,
-        }
+        is_data_leaf(self.sound_draft(), seat)
     }
 
     /// The tree in which a member stands.
@@ -50,14 +43,5 @@ impl Outline {
         ensures short { length result.now < 2 ^ 32 }
     {
         sound_tree(self.sound_draft(), seat)
-    }
-}
-
-fn is_without_formula(draft: &Draft, seat: Seat) -> bool
-    ensures { result ≡ has (λ m. is_none m.formula) draft.now seat }
-{
-    match member_at(draft, seat) {
-        Some(member) => member.formula.is_none(),
-        None => false,
     }
 }

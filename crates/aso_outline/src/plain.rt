@@ -8,7 +8,7 @@ use crate::draft::{Draft, DraftDim, DraftHier, DraftMember};
 fn is_plain_member(member: &DraftMember) -> bool
     ensures { result ≡ is_plain_member member.now }
 {
-    !member.shared && member.formula.is_none() && member.carries.items().len() == 0
+    member.formula.is_none()
 }
 
 fn is_plain_tree(hier: &DraftHier) -> bool
@@ -32,10 +32,10 @@ fn are_plain_dims(dims: &[DraftDim]) -> bool
     dims.iter().all(|dim| is_plain_dim(dim))
 }
 
-/// No shared member, no formula, no attribute dimension and no carried attribute.
+/// No formula.
 #[tactic(auto, unfolding(crate::specs::Rules::is_plain))]
 pub fn is_plain(draft: &Draft) -> bool
     ensures { result ≡ is_plain draft.now }
 {
-    draft.attrs.items().len() == 0 && are_plain_dims(draft.dims.items())
+    are_plain_dims(draft.dims.items())
 }

@@ -10,7 +10,7 @@ use crate::leaves::has_data_leaf;
 use crate::look::{dim_name, name_at};
 use crate::seat::Seat;
 
-fn same_name(a: &str, b: &str) -> bool
+pub fn same_name(a: &str, b: &str) -> bool
     ensures { result ≡ same_name a.now b.now }
 {
     a == b

@@ -165,7 +165,7 @@ fn the_broken_rule_and_its_least_member(rt: HostRuntime) -> Result<(), Fail> {
         (
             true,
             [root, leaf, ("B", 0, Mark::Shared), ("C", 0, Mark::Plain)],
-            Some((0, 0)),
+            Some((6, 5)),
         ),
     ];
     for (dynamic, rows, want) in cases {
