@@ -1,6 +1,10 @@
 -- How a formula is printed: parentheses only where reading would give another tree.
-use Rattle.std.specs.Prelude.{ℕ, ◌+◌, ◌/◌, ◌%◌, ◌==◌, Bool, List, [], ◌∷◌, ◌++◌, flat_map, ℤ, pos, negsuc, suc, if◌then◌else◌, nat_lt}
+use Rattle.std.specs.Prelude.{ℕ, ◌+◌, ◌/◌, ◌%◌, ◌==◌, Bool, false, List, [], ◌∷◌, ◌++◌, flat_map, ℤ, pos, negsuc, suc, if◌then◌else◌, nat_lt}
 use Rattle.std.specs.Fmt.{decimal}
+use Rattle.aso_token.specs.declared.token.Token.{Token}
+use Rattle.aso_token.specs.Cutting.{cut}
+use Rattle.aso_token.specs.Marks.{open_mark}
+use Rattle.aso_token.specs.Reads.{passes, tokens_of}
 use Rattle.aso_outline.specs.declared.draft.Op.{Op}
 use Rattle.aso_outline.specs.declared.draft.Op.TheVariants.{Plus, Minus, Times, Over, Skip}
 use Rattle.aso_outline.specs.declared.draft.Expr.{Expr, fold-Expr}
@@ -71,3 +75,12 @@ shown = fold-Expr (ℕ → List ℕ) shown_step
 -- the whole text
 abbrev pub formula_text : Expr → List ℕ
 formula_text e = shown e 0
+
+-- ---- how many parentheses a text opens
+
+abbrev pub opens : List Token → ℕ
+opens [] = 0
+opens (t ∷ ts) = (if passes open_mark t then 1 else 0) + opens ts
+
+abbrev pub parens_of : List ℕ → ℕ
+parens_of text = opens (tokens_of (cut false text).placed)

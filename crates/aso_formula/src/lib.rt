@@ -9,3 +9,6 @@ mod text;
 pub use fault::FormulaFault;
 pub use printing::print;
 pub use text::parse;
+
+#[cfg(test)]
+mod tests;

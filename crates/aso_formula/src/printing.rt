@@ -1,6 +1,7 @@
-ghost use Rattle.std.specs.Prelude.{◌≡◌, ◌++◌, ◌<◌, ◌+◌, ◌≤◌, OnOk, IfOk};
+ghost use Rattle.std.specs.Prelude.{List, ℕ, ◌≡◌, ◌++◌, ◌<◌, ◌+◌, ◌≤◌, OnOk, IfOk};
 ghost use Rattle.std.specs.String.{string_bytes};
-ghost use Rattle.aso_formula.specs.Printing.{mark_of, level_of, op_text, bracketed as bracketed_text, cell_text, decimals_text, units_text, number_text, only_if, shown, formula_text};
+ghost use Rattle.aso_formula.specs.Printing.{mark_of, level_of, op_text, bracketed as bracketed_text, cell_text, decimals_text, units_text, number_text, only_if, shown, formula_text, parens_of};
+ghost use Rattle.aso_formula.specs.Formula.{SpellsFormula};
 
 use aso_outline::{Expr, Op};
 use aso_memory::NoMemory;
@@ -150,6 +151,8 @@ fn put(e: &Expr, least: u8, out: &mut String) -> Result<(), AllocError>
 /// The text of a formula, with parentheses only where reading would otherwise give another tree.
 pub fn print(alloc: Global, e: &Expr) -> Result<String, NoMemory>
     ensures text { IfOk result (λ s. string_bytes s ≡ formula_text e.now) }
+    ensures reads_again { (text : List ℕ) → SpellsFormula text e.now → IfOk result (λ s. SpellsFormula (string_bytes s) e.now) }
+    ensures fewest_parentheses { (text : List ℕ) → SpellsFormula text e.now → IfOk result (λ s. parens_of (string_bytes s) ≤ parens_of text) }
 {
     let mut text = String::new(alloc);
     put(e, 0, &mut text)?;

@@ -116,7 +116,7 @@ one_law f some = record {
   stops = one_stops f some;
   whole = λ front a rest h _. one_whole f front a rest h;
   near_ok = one_near_ok f;
-  near_err = one_near_err f
+  near_err = one_near_err f;
 }
 
 -- ---- one after the other
@@ -130,7 +130,6 @@ joined : (ts xs mid ys rest : List Token) → ts ≡ xs ++ mid → mid ≡ ys ++
 joined ts xs mid ys rest e f = e ∙ ap (λ z. xs ++ z) f ∙ sym (append_assoc xs ys rest)
 
 module _ {A B : Type 0} (P : Lang A) (Q : Lang B) (gp gq : Token → Bool) (r : List Token → Read A) (s : List Token → Read B) (p : Law P gp r) (q : Law Q gq s) where
-
   then_found : (ts : List Token) (v : (A × B) × List Token) → read_then r s ts ≡ Ok v → (front : List Token) × (ts ≡ front ++ v.1) × Then P Q front v.0
   then_found ts v e =
       let a = bind_ok (r ts) (second s) v e in
@@ -152,8 +151,8 @@ module _ {A B : Type 0} (P : Lang A) (Q : Lang B) (gp gq : Token → Bool) (r : 
   then_stops some ts rest e =
       ⊎_elim
       (λ (h : r ts ≡ Err rest).
-        let f = p.stops ts rest h in
-        (f.0, f.1, (f.2.0 ++ some.0, (f.2.1, some.1), (f.0 ++ f.2.0, some.0, sym (append_assoc f.0 f.2.0 some.0), f.2.2, some.2))))
+      let f = p.stops ts rest h in
+      (f.0, f.1, (f.2.0 ++ some.0, (f.2.1, some.1), (f.0 ++ f.2.0, some.0, sym (append_assoc f.0 f.2.0 some.0), f.2.2, some.2))))
       (λ (h : (x : A × List Token) × (r ts ≡ Ok x) × (second s x ≡ Err rest)). then_stops_second ts rest h.0 h.1 h.2)
       (bind_err (r ts) (second s) rest e)
 
@@ -162,7 +161,7 @@ module _ {A B : Type 0} (P : Lang A) (Q : Lang B) (gp gq : Token → Bool) (r : 
       let xs = h.0 in
       let ys = h.1 in
       let first : r (front ++ rest) ≡ Ok (v.0, ys ++ rest) =
-          ap (λ z. r (z ++ rest)) h.2 ∙ ap r (append_assoc xs ys rest) ∙ p.whole xs v.0 (ys ++ rest) h.3 (next ys v.1 rest h.4 halts) in
+      ap (λ z. r (z ++ rest)) h.2 ∙ ap r (append_assoc xs ys rest) ∙ p.whole xs v.0 (ys ++ rest) h.3 (next ys v.1 rest h.4 halts) in
       bound (r (front ++ rest)) (second s) (v.0, ys ++ rest) first
       ∙ bound (s (ys ++ rest)) (paired v.0) (v.1, rest) (q.whole ys v.1 rest h.4 halts)
 
@@ -185,9 +184,9 @@ module _ {A B : Type 0} (P : Lang A) (Q : Lang B) (gp gq : Token → Bool) (r : 
       let mid : x.1 ≡ f.0 ++ (us ++ t ∷ rest) = f.1 ∙ ap (λ z. f.0 ++ z) left in
       let one = first_near front us t rest other x f.0 a.1 mid in
       let tail : s ((f.0 ++ us) ++ t ∷ rest) ≡ Ok (y.0, us ++ t ∷ rest) =
-          ap s (append_assoc f.0 us (t ∷ rest) ∙ sym mid) ∙ b.1 ∙ ap (λ (z : List Token). good {A = B} (y.0, z)) left in
+      ap s (append_assoc f.0 us (t ∷ rest) ∙ sym mid) ∙ b.1 ∙ ap (λ (z : List Token). good {A = B} (y.0, z)) left in
       let two : s (f.0 ++ (us ++ t ∷ other)) ≡ Ok (y.0, us ++ t ∷ other) =
-          ap s (sym (append_assoc f.0 us (t ∷ other))) ∙ q.near_ok (f.0 ++ us) us t rest other y.0 tail in
+      ap s (sym (append_assoc f.0 us (t ∷ other))) ∙ q.near_ok (f.0 ++ us) us t rest other y.0 tail in
       bound (r (front ++ t ∷ other)) (second s) (x.0, f.0 ++ (us ++ t ∷ other)) one
       ∙ bound (s (f.0 ++ (us ++ t ∷ other))) (paired x.0) (y.0, us ++ t ∷ other) two
       ∙ ap (λ (z : A × B). good {A = A × B} (z, us ++ t ∷ other)) value
@@ -197,12 +196,12 @@ module _ {A B : Type 0} (P : Lang A) (Q : Lang B) (gp gq : Token → Bool) (r : 
       ⊎_elim
       (λ (h : r (front ++ t ∷ rest) ≡ Err (t ∷ rest)). failed (r (front ++ t ∷ other)) (second s) (t ∷ other) (p.near_err front t rest other h))
       (λ (h : (x : A × List Token) × (r (front ++ t ∷ rest) ≡ Ok x) × (second s x ≡ Err (t ∷ rest))).
-        let x : A × List Token = h.0 in
-        let k : s x.1 ≡ Err (t ∷ rest) = second_err (s x.1) x.0 (t ∷ rest) h.2 in
-        let f = q.stops x.1 (t ∷ rest) k in
-        let one = first_near front [] t rest other x f.0 h.1 f.1 in
-        let two = q.near_err f.0 t rest other (ap s (sym f.1) ∙ k) in
-        bound (r (front ++ t ∷ other)) (second s) (x.0, f.0 ++ t ∷ other) one ∙ failed (s (f.0 ++ t ∷ other)) (paired x.0) (t ∷ other) two)
+      let x : A × List Token = h.0 in
+      let k : s x.1 ≡ Err (t ∷ rest) = second_err (s x.1) x.0 (t ∷ rest) h.2 in
+      let f = q.stops x.1 (t ∷ rest) k in
+      let one = first_near front [] t rest other x f.0 h.1 f.1 in
+      let two = q.near_err f.0 t rest other (ap s (sym f.1) ∙ k) in
+      bound (r (front ++ t ∷ other)) (second s) (x.0, f.0 ++ t ∷ other) one ∙ failed (s (f.0 ++ t ∷ other)) (paired x.0) (t ∷ other) two)
       (bind_err (r (front ++ t ∷ rest)) (second s) (t ∷ rest) e)
 
   pub then_law : (ys : List Token) × (b : B) × Q ys b → ((ys : List Token) (b : B) (rest : List Token) → Q ys b → Halts gq rest → Halts gp (ys ++ rest)) → Law (Then P Q) gq (read_then r s)
@@ -211,7 +210,6 @@ module _ {A B : Type 0} (P : Lang A) (Q : Lang B) (gp gq : Token → Bool) (r : 
 -- ---- one, and what its value says must follow
 
 module _ {A B : Type 0} (P : Lang A) (Q : A → Lang B) (gp gq : Token → Bool) (r : List Token → Read A) (s : A → List Token → Read B) (p : Law P gp r) (q : (a : A) → Law (Q a) gq (s a)) where
-
   pick_found : (ts : List Token) (v : (A × B) × List Token) → read_pick r s ts ≡ Ok v → (front : List Token) × (ts ≡ front ++ v.1) × Pick P Q front v.0
   pick_found ts v e =
       let a = bind_ok (r ts) (picked s) v e in
@@ -233,8 +231,8 @@ module _ {A B : Type 0} (P : Lang A) (Q : A → Lang B) (gp gq : Token → Bool)
   pick_stops some ts rest e =
       ⊎_elim
       (λ (h : r ts ≡ Err rest).
-        let f = p.stops ts rest h in
-        let z = some f.2.1 in (f.0, f.1, (f.2.0 ++ z.0, (f.2.1, z.1), (f.0 ++ f.2.0, z.0, sym (append_assoc f.0 f.2.0 z.0), f.2.2, z.2))))
+      let f = p.stops ts rest h in
+      let z = some f.2.1 in (f.0, f.1, (f.2.0 ++ z.0, (f.2.1, z.1), (f.0 ++ f.2.0, z.0, sym (append_assoc f.0 f.2.0 z.0), f.2.2, z.2))))
       (λ (h : (x : A × List Token) × (r ts ≡ Ok x) × (picked s x ≡ Err rest)). pick_stops_after ts rest h.0 h.1 h.2)
       (bind_err (r ts) (picked s) rest e)
 
@@ -243,7 +241,7 @@ module _ {A B : Type 0} (P : Lang A) (Q : A → Lang B) (gp gq : Token → Bool)
       let xs = h.0 in
       let ys = h.1 in
       let first : r (front ++ rest) ≡ Ok (v.0, ys ++ rest) =
-          ap (λ z. r (z ++ rest)) h.2 ∙ ap r (append_assoc xs ys rest) ∙ p.whole xs v.0 (ys ++ rest) h.3 (next v.0 ys v.1 rest h.4 halts) in
+      ap (λ z. r (z ++ rest)) h.2 ∙ ap r (append_assoc xs ys rest) ∙ p.whole xs v.0 (ys ++ rest) h.3 (next v.0 ys v.1 rest h.4 halts) in
       bound (r (front ++ rest)) (picked s) (v.0, ys ++ rest) first
       ∙ bound (s v.0 (ys ++ rest)) (paired v.0) (v.1, rest) ((q v.0).whole ys v.1 rest h.4 halts)
 
@@ -266,9 +264,9 @@ module _ {A B : Type 0} (P : Lang A) (Q : A → Lang B) (gp gq : Token → Bool)
       let mid : x.1 ≡ f.0 ++ (us ++ t ∷ rest) = f.1 ∙ ap (λ z. f.0 ++ z) left in
       let one = pick_first front us t rest other x f.0 a.1 mid in
       let tail : s x.0 ((f.0 ++ us) ++ t ∷ rest) ≡ Ok (y.0, us ++ t ∷ rest) =
-          ap (s x.0) (append_assoc f.0 us (t ∷ rest) ∙ sym mid) ∙ b.1 ∙ ap (λ (z : List Token). good {A = B} (y.0, z)) left in
+      ap (s x.0) (append_assoc f.0 us (t ∷ rest) ∙ sym mid) ∙ b.1 ∙ ap (λ (z : List Token). good {A = B} (y.0, z)) left in
       let two : s x.0 (f.0 ++ (us ++ t ∷ other)) ≡ Ok (y.0, us ++ t ∷ other) =
-          ap (s x.0) (sym (append_assoc f.0 us (t ∷ other))) ∙ (q x.0).near_ok (f.0 ++ us) us t rest other y.0 tail in
+      ap (s x.0) (sym (append_assoc f.0 us (t ∷ other))) ∙ (q x.0).near_ok (f.0 ++ us) us t rest other y.0 tail in
       bound (r (front ++ t ∷ other)) (picked s) (x.0, f.0 ++ (us ++ t ∷ other)) one
       ∙ bound (s x.0 (f.0 ++ (us ++ t ∷ other))) (paired x.0) (y.0, us ++ t ∷ other) two
       ∙ ap (λ (z : A × B). good {A = A × B} (z, us ++ t ∷ other)) value
@@ -278,12 +276,12 @@ module _ {A B : Type 0} (P : Lang A) (Q : A → Lang B) (gp gq : Token → Bool)
       ⊎_elim
       (λ (h : r (front ++ t ∷ rest) ≡ Err (t ∷ rest)). failed (r (front ++ t ∷ other)) (picked s) (t ∷ other) (p.near_err front t rest other h))
       (λ (h : (x : A × List Token) × (r (front ++ t ∷ rest) ≡ Ok x) × (picked s x ≡ Err (t ∷ rest))).
-        let x : A × List Token = h.0 in
-        let k : s x.0 x.1 ≡ Err (t ∷ rest) = second_err (s x.0 x.1) x.0 (t ∷ rest) h.2 in
-        let f = (q x.0).stops x.1 (t ∷ rest) k in
-        let one = pick_first front [] t rest other x f.0 h.1 f.1 in
-        let two = (q x.0).near_err f.0 t rest other (ap (s x.0) (sym f.1) ∙ k) in
-        bound (r (front ++ t ∷ other)) (picked s) (x.0, f.0 ++ t ∷ other) one ∙ failed (s x.0 (f.0 ++ t ∷ other)) (paired x.0) (t ∷ other) two)
+      let x : A × List Token = h.0 in
+      let k : s x.0 x.1 ≡ Err (t ∷ rest) = second_err (s x.0 x.1) x.0 (t ∷ rest) h.2 in
+      let f = (q x.0).stops x.1 (t ∷ rest) k in
+      let one = pick_first front [] t rest other x f.0 h.1 f.1 in
+      let two = (q x.0).near_err f.0 t rest other (ap (s x.0) (sym f.1) ∙ k) in
+      bound (r (front ++ t ∷ other)) (picked s) (x.0, f.0 ++ t ∷ other) one ∙ failed (s x.0 (f.0 ++ t ∷ other)) (paired x.0) (t ∷ other) two)
       (bind_err (r (front ++ t ∷ rest)) (picked s) (t ∷ rest) e)
 
   pub pick_law : ((a : A) → (ys : List Token) × (b : B) × Q a ys b) → ((a : A) (ys : List Token) (b : B) (rest : List Token) → Q a ys b → Halts gq rest → Halts gp (ys ++ rest)) → Law (Pick P Q) gq (read_pick r s)
@@ -292,7 +290,6 @@ module _ {A B : Type 0} (P : Lang A) (Q : A → Lang B) (gp gq : Token → Bool)
 -- ---- a value made of what is read
 
 module _ {A B : Type 0} (P : Lang A) (goes : Token → Bool) (r : List Token → Read A) (f : A → B) (p : Law P goes r) where
-
   made_err : (r : Read A) (rest : List Token) → (r >>= made f) ≡ Err rest → r ≡ Err rest
   made_err (Ok y) rest e = ok_err (f y.0, y.1) rest e
   made_err (Err w) rest e = ap (bad {A = A}) (err_is {A = B} w rest e)
@@ -348,16 +345,19 @@ empty_law {A} b goes = record {
   stops = λ ts rest e. ok_err (b, ts) rest e;
   whole = λ front a rest h _. ap (λ z. good (b, z ++ rest)) h.0 ∙ ap (λ z. good (z, rest)) h.1;
   near_ok = λ front us t rest other a e.
-    let same = ok_is (b, front ++ t ∷ rest) (a, us ++ t ∷ rest) e in
-    let fronts = cancel front us (t ∷ rest) (ap (λ (z : A × List Token). z.1) same) in
-    ap (λ z. good (b, z ++ t ∷ other)) fronts ∙ ap (λ (z : A × List Token). good (z.0, us ++ t ∷ other)) same;
-  near_err = λ front t rest other e. ok_err (b, front ++ t ∷ rest) (t ∷ rest) e
+      let same = ok_is (b, front ++ t ∷ rest) (a, us ++ t ∷ rest) e in
+      let fronts = cancel front us (t ∷ rest) (ap (λ (z : A × List Token). z.1) same) in
+      ap (λ z. good (b, z ++ t ∷ other)) fronts ∙ ap (λ (z : A × List Token). good (z.0, us ++ t ∷ other)) same;
+  near_err = λ front t rest other e. ok_err (b, front ++ t ∷ rest) (t ∷ rest) e;
 }
 
 pub loosen : {A : Type 0} (P : Lang A) (g h : Token → Bool) (r : List Token → Read A) → ((ts : List Token) → Halts h ts → Halts g ts) → Law P g r → Law P h r
 loosen P g h r less p = record {
-  found = p.found; stops = p.stops; near_ok = p.near_ok; near_err = p.near_err;
-  whole = λ front a rest is halts. p.whole front a rest is (less rest halts)
+  found = p.found;
+  stops = p.stops;
+  near_ok = p.near_ok;
+  near_err = p.near_err;
+  whole = λ front a rest is halts. p.whole front a rest is (less rest halts);
 }
 
 -- a language of the same texts
@@ -365,8 +365,9 @@ pub same_law : {A : Type 0} (P Q : Lang A) (g : Token → Bool) (r : List Token 
 same_law P Q g r to from p = record {
   found = λ ts x e. let h = p.found ts x e in (h.0, h.1, to h.0 x.0 h.2);
   stops = λ ts rest e. let h = p.stops ts rest e in (h.0, h.1, (h.2.0, h.2.1, to (h.0 ++ h.2.0) h.2.1 h.2.2));
-  near_ok = p.near_ok; near_err = p.near_err;
-  whole = λ front a rest is halts. p.whole front a rest (from front a is) halts
+  near_ok = p.near_ok;
+  near_err = p.near_err;
+  whole = λ front a rest is halts. p.whole front a rest (from front a is) halts;
 }
 
 pub chosen : {A : Type 0} (b : Bool) (x y z : A) → (if b then x else y) ≡ z → ((b ≡ true) × (x ≡ z)) ⊎ ((b ≡ false) × (y ≡ z))
@@ -380,7 +381,6 @@ pub if_false : {A : Type 0} (b : Bool) (x y : A) → b ≡ false → (if b then 
 if_false b x y e = ap (λ c. if c then x else y) e
 
 module _ {A : Type 0} (P Q : Lang A) (g test : Token → Bool) (r s : List Token → Read A) (p : Law P g r) (q : Law Q g s) where
-
   or_found : (ts : List Token) (x : A × List Token) → read_if test r s ts ≡ Ok x → (front : List Token) × (ts ≡ front ++ x.1) × Or P Q front x.0
   or_found ts x e =
       ⊎_elim
@@ -419,11 +419,14 @@ module _ {A : Type 0} (P Q : Lang A) (g test : Token → Bool) (r s : List Token
       → ((ts : List Token) (a : A) (rest : List Token) → Q ts a → Halts g rest → begins test (ts ++ rest) ≡ false)
       → Law (Or P Q) g (read_if test r s)
   or_law first second = record {
-    found = or_found; stops = or_stops; near_ok = or_near_ok; near_err = or_near_err;
+    found = or_found;
+    stops = or_stops;
+    near_ok = or_near_ok;
+    near_err = or_near_err;
     whole = λ front a rest h halts. ⊎_elim
-      (λ (h : P front a). if_true (begins test (front ++ rest)) (r (front ++ rest)) (s (front ++ rest)) (first front a rest h) ∙ p.whole front a rest h halts)
-      (λ (h : Q front a). if_false (begins test (front ++ rest)) (r (front ++ rest)) (s (front ++ rest)) (second front a rest h halts) ∙ q.whole front a rest h halts)
-      h
+        (λ (h : P front a). if_true (begins test (front ++ rest)) (r (front ++ rest)) (s (front ++ rest)) (first front a rest h) ∙ p.whole front a rest h halts)
+        (λ (h : Q front a). if_false (begins test (front ++ rest)) (r (front ++ rest)) (s (front ++ rest)) (second front a rest h halts) ∙ q.whole front a rest h halts)
+        h;
   }
 
 -- ---- several, end to end
@@ -451,7 +454,6 @@ fails f g apart (t ∷ ts) h = apart t h
 module _ {A : Type 0} (P : Lang A) (gp test : Token → Bool) (r : List Token → Read A) (p : Law P gp r)
     (heads : (ts : List Token) (a : A) (rest : List Token) → P ts a → begins test (ts ++ rest) ≡ true)
     (apart : (t : Token) → test t ≡ true → gp t ≡ false) (some : (ts : List Token) × (a : A) × P ts a) where
-
   some_upto : (n : ℕ) → (ts : List Token) × (all : List A) × UpTo n P ts all
   some_upto zero = ([], [], (refl, refl))
   some_upto (suc n) = ([], [], inr (refl, refl))
@@ -471,7 +473,7 @@ module _ {A : Type 0} (P : Lang A) (gp test : Token → Bool) (r : List Token �
   upto_law (suc n) =
       or_law (Makes (Then P (UpTo n P)) put_before) (Empty []) (either test gp) test (read_as (read_then r (read_upto test r n)) put_before) (read_empty [])
       (as_law (Then P (UpTo n P)) (either test gp) (read_then r (read_upto test r n)) put_before
-        (then_law P (UpTo n P) gp (either test gp) r (read_upto test r n) p (upto_law n) (some_upto n) (upto_next n)))
+      (then_law P (UpTo n P) gp (either test gp) r (read_upto test r n) p (upto_law n) (some_upto n) (upto_next n)))
       (empty_law [] (either test gp))
       (λ ts a rest h. then_heads (UpTo n P) ts h.0 rest h.1)
       (λ ts a rest h halts. ap (λ z. begins test (z ++ rest)) h.0 ∙ halts_first test gp rest halts)
@@ -496,7 +498,7 @@ module _ {A : Type 0} (P : Lang A) (gp test : Token → Bool) (r : List Token �
   same_fuel (suc n) (suc m) ts a b =
       ap (λ (z : Read (A × List A)). if begins test ts then (z >>= made put_before) else Ok ([], ts))
       (then_same (read_upto test r n) (read_upto test r m) (r ts)
-        (λ x e. let k = shorter ts x e in same_fuel n m x.1 (omega arith) (omega arith)))
+      (λ x e. let k = shorter ts x e in same_fuel n m x.1 (omega arith) (omega arith)))
 
   upto_ge : (n m : ℕ) (ts : List Token) (all : List A) → n ≤ m → UpTo n P ts all → UpTo m P ts all
   upto_ge zero zero ts all le h = h
@@ -504,7 +506,7 @@ module _ {A : Type 0} (P : Lang A) (gp test : Token → Bool) (r : List Token �
   upto_ge (suc n) zero ts all le h = absurd (omega arith)
   upto_ge (suc n) (suc m) ts all le h = ⊎_elim
       (λ (h : Makes (Then P (UpTo n P)) put_before ts all). let k = h.1 in
-        inl (h.0, (k.0, k.1, k.2, k.3, upto_ge n m k.1 h.0.1 (omega arith) k.4), h.2))
+      inl (h.0, (k.0, k.1, k.2, k.3, upto_ge n m k.1 h.0.1 (omega arith) k.4), h.2))
       (λ (h : Empty [] ts all). inr h)
       h
 
@@ -513,19 +515,19 @@ module _ {A : Type 0} (P : Lang A) (gp test : Token → Bool) (r : List Token �
     found = λ ts x e. let f = (upto_law (length ts)).found ts x e in (f.0, f.1, (length ts, f.2));
     stops = λ ts rest e. let f = (upto_law (length ts)).stops ts rest e in (f.0, f.1, (f.2.0, f.2.1, (length ts, f.2.2)));
     whole = λ front a rest h halts.
-      let n = length (front ++ rest) in
-      same_fuel n (h.0 + n) (front ++ rest) (omega arith) (omega arith)
-      ∙ (upto_law (h.0 + n)).whole front a rest (upto_ge h.0 (h.0 + n) front a (omega arith) h.1) halts;
+        let n = length (front ++ rest) in
+        same_fuel n (h.0 + n) (front ++ rest) (omega arith) (omega arith)
+        ∙ (upto_law (h.0 + n)).whole front a rest (upto_ge h.0 (h.0 + n) front a (omega arith) h.1) halts;
     near_ok = λ front us t rest other a e.
-      let n = length (front ++ t ∷ rest) in
-      let m = length (front ++ t ∷ other) in
-      same_fuel m (n + m) (front ++ t ∷ other) (omega arith) (omega arith)
-      ∙ (upto_law (n + m)).near_ok front us t rest other a (same_fuel (n + m) n (front ++ t ∷ rest) (omega arith) (omega arith) ∙ e);
+        let n = length (front ++ t ∷ rest) in
+        let m = length (front ++ t ∷ other) in
+        same_fuel m (n + m) (front ++ t ∷ other) (omega arith) (omega arith)
+        ∙ (upto_law (n + m)).near_ok front us t rest other a (same_fuel (n + m) n (front ++ t ∷ rest) (omega arith) (omega arith) ∙ e);
     near_err = λ front t rest other e.
-      let n = length (front ++ t ∷ rest) in
-      let m = length (front ++ t ∷ other) in
-      same_fuel m (n + m) (front ++ t ∷ other) (omega arith) (omega arith)
-      ∙ (upto_law (n + m)).near_err front t rest other (same_fuel (n + m) n (front ++ t ∷ rest) (omega arith) (omega arith) ∙ e)
+        let n = length (front ++ t ∷ rest) in
+        let m = length (front ++ t ∷ other) in
+        same_fuel m (n + m) (front ++ t ∷ other) (omega arith) (omega arith)
+        ∙ (upto_law (n + m)).near_err front t rest other (same_fuel (n + m) n (front ++ t ∷ rest) (omega arith) (omega arith) ∙ e);
   }
 
 -- ---- texts with tokens between them
@@ -539,14 +541,13 @@ pub many_follow : {A : Type 0} (P : Lang A) (test g : Token → Bool) → ((ts :
 many_follow P test g heads apart zero ys b rest h halts = ap (λ z. begins g (z ++ rest)) h.0 ∙ halts
 many_follow P test g heads apart (suc n) ys b rest h halts = ⊎_elim
     (λ (h : Makes (Then P (UpTo n P)) put_before ys b).
-      let k = h.1 in
-      fails test g apart (ys ++ rest) (ap (λ z. begins test (z ++ rest)) k.2 ∙ ap (begins test) (append_assoc k.0 k.1 rest) ∙ heads k.0 h.0.0 (k.1 ++ rest) k.3))
+    let k = h.1 in
+    fails test g apart (ys ++ rest) (ap (λ z. begins test (z ++ rest)) k.2 ∙ ap (begins test) (append_assoc k.0 k.1 rest) ∙ heads k.0 h.0.0 (k.1 ++ rest) k.3))
     (λ (h : Empty [] ys b). ap (λ z. begins g (z ++ rest)) h.0 ∙ halts)
     h
 
 module _ {A B : Type 0} (P : Lang A) (gp : Token → Bool) (r : List Token → Read A) (p : Law P gp r) (between : Token → Option B)
     (apart : (t : Token) → passes between t ≡ true → gp t ≡ false) (tok : (t : Token) × (b : B) × (between t ≡ Some b)) (some : (ts : List Token) × (a : A) × P ts a) where
-
   pub pair_law : Law (Then (One between) P) gp (read_then (read_one between) r)
   pair_law = then_law (One between) P (λ _. false) gp (read_one between) r (one_law between tok) p some (λ ys b rest h halts. never_halts (ys ++ rest))
 
@@ -563,7 +564,6 @@ module _ {A B : Type 0} (P : Lang A) (gp : Token → Bool) (r : List Token → R
 
   -- how a loop reads what follows
   module _ {C : Type 0} (step : C → B × A → C) where
-
     regroup : (f : A × List (B × A) → C) (a : A) (e : C) → ((ys : List (B × A)) → f (a, ys) ≡ fold step e ys) → (z : Read (List (B × A))) → ((z >>= paired a) >>= made f) ≡ (z >>= gathered step e)
     regroup f a e same (Ok y) = ap (λ c. good (c, y.1)) (same y.0)
     regroup f a e same (Err w) = refl
@@ -607,7 +607,7 @@ module _ {A B : Type 0} (P : Lang A) (gp : Token → Bool) (r : List Token → R
         ap (λ (o : Option B). (if is_some o then ((((taken o t after >>= second r) >>= second many) >>= made put_before)) else Ok ([], t ∷ after)) >>= gathered step e) is
         ∙ ap (λ (z : Read A). (((z >>= paired b) >>= second many) >>= made put_before) >>= gathered step e) reads
         ∙ ap (λ (z : Read (List (B × A))). ((z >>= paired (b, x.0)) >>= made put_before) >>= gathered step e)
-          (same_fuel (Then (One between) P) gp (passes between) pair pair_law (one_heads between P) apart some_pair (length after) (length x.1) x.1 less (omega arith))
+        (same_fuel (Then (One between) P) gp (passes between) pair pair_law (one_heads between P) apart some_pair (length after) (length x.1) x.1 less (omega arith))
         ∙ one_more (read_many (passes between) pair x.1) e (b, x.0)
 
     pub onward_err : (e : C) (t : Token) (after rest : List Token) (b : B) → between t ≡ Some b → r after ≡ Err rest → onward step between r e (t ∷ after) ≡ Err rest
@@ -667,7 +667,6 @@ module _ {A : Type 0} (P Q : Lang A) (g f h : Token → Bool) (r s : List Token 
     (q_some : (a : A) → Q [] a → ⊥)
     (q_goes : (n m : Token) (rest : List Token) → f n ≡ true → h m ≡ true → (b : A) × (s (n ∷ m ∷ rest) ≡ Ok (b, m ∷ rest)))
     (p_goes : (n m : Token) (rest : List Token) → f n ≡ true → h m ≡ true → r (n ∷ m ∷ rest) ≡ Err (n ∷ m ∷ rest) → ⊥) where
-
   two_ok : (ts : List Token) (x : A × List Token) → read_if_two f h r s ts ≡ Ok x → (front : List Token) × (ts ≡ front ++ x.1) × Or P Q front x.0
   two_ok ts x e =
       ⊎_elim
@@ -726,11 +725,14 @@ module _ {A : Type 0} (P Q : Lang A) (g f h : Token → Bool) (r s : List Token 
 
   pub or_two_law : Law (Or P Q) g (read_if_two f h r s)
   or_two_law = record {
-    found = two_ok; stops = two_stops; near_ok = two_near_ok; near_err = two_near_err;
+    found = two_ok;
+    stops = two_stops;
+    near_ok = two_near_ok;
+    near_err = two_near_err;
     whole = λ front a rest k halts. ⊎_elim
-      (λ (k : P front a). if_true (begin f h (front ++ rest)) (r (front ++ rest)) (s (front ++ rest)) (p_begins front a rest k) ∙ p.whole front a rest k halts)
-      (λ (k : Q front a). if_false (begin f h (front ++ rest)) (r (front ++ rest)) (s (front ++ rest)) (q_begins front a rest k halts) ∙ q.whole front a rest k halts)
-      k
+        (λ (k : P front a). if_true (begin f h (front ++ rest)) (r (front ++ rest)) (s (front ++ rest)) (p_begins front a rest k) ∙ p.whole front a rest k halts)
+        (λ (k : Q front a). if_false (begin f h (front ++ rest)) (r (front ++ rest)) (s (front ++ rest)) (q_begins front a rest k halts) ∙ q.whole front a rest k halts)
+        k;
   }
 
 -- ---- a whole text
@@ -764,7 +766,6 @@ ok_same : {A C : Type 0} (a b : A) (t : Token) (ts : List Token) → good (a, []
 ok_same {A} a b t ts e = let k : [] ≡ t ∷ ts = ap (λ (z : A × List Token). z.1) (ok_is (a, []) (b, t ∷ ts) e) in absurd (let h : ⊥ = cc in h)
 
 module _ {A : Type 0} (P : Lang A) (goes : Token → Bool) (r : List Token → Read A) (p : Law P goes r) where
-
   pub text_found : (ts : List Token) (a : A) → finished (r ts) ≡ Ok a → P ts a
   text_found ts a e =
       let f = p.found ts (a, []) (end_ok (r ts) a e) in
@@ -796,6 +797,6 @@ module _ {A : Type 0} (P : Lang A) (goes : Token → Bool) (r : List Token → R
       ⊎_elim
       (λ (h : r ts ≡ Err rest). let f = p.stops ts rest h in record { front = f.0; cut = f.1; before = f.2; here = fault_here ts f.0 rest f.1 e })
       (λ (h : (a : A) × (r ts ≡ Ok (a, rest))). let f = p.found ts (h.0, rest) h.1 in
-        let F : List Token → Type 0 = λ z. P z h.0 in
-        record { front = f.0; cut = f.1; before = ([], h.0, subst F (sym (append-nil f.0)) f.2); here = fault_here ts f.0 rest f.1 e })
+      let F : List Token → Type 0 = λ z. P z h.0 in
+      record { front = f.0; cut = f.1; before = ([], h.0, subst F (sym (append-nil f.0)) f.2); here = fault_here ts f.0 rest f.1 e })
       (end_err (r ts) rest e)

@@ -40,11 +40,12 @@ lexes_piece p rest t ts some is h zero at le = absurd (let n : ⊥ = omega (arit
 lexes_piece p rest t ts some is h (suc m) at le =
     let k = h m (at + length p) (omega (arith, le, some, length-append p rest)) in
     let cuts : cut_from false (suc m) at (p ++ rest) ≡ joined (placed_of t at) true (cut_from false m (at + length p) rest) =
-        cut_some false m at (p ++ rest) (omega (arith, some, length-append p rest))
-        ∙ ap (λ (o : Option Front). after_front false m at (p ++ rest) o) is
-        ∙ ap (λ (z : List ℕ). joined (placed_of t at) true (cut_from false m (at + length p) z)) (drop-append_seam p rest) in
-    ( ap (λ (c : Cut). tokens_of c.placed) cuts ∙ listed_placed t at (cut_from false m (at + length p) rest).placed ∙ ap (λ (z : List Token). listed t ++ z) k.0
-    , ap (λ (c : Cut). c.whole) cuts ∙ k.1 )
+    cut_some false m at (p ++ rest) (omega (arith, some, length-append p rest))
+    ∙ ap (λ (o : Option Front). after_front false m at (p ++ rest) o) is
+    ∙ ap (λ (z : List ℕ). joined (placed_of t at) true (cut_from false m (at + length p) z)) (drop-append_seam p rest) in (
+      ap (λ (c : Cut). tokens_of c.placed) cuts ∙ listed_placed t at (cut_from false m (at + length p) rest).placed ∙ ap (λ (z : List Token). listed t ++ z) k.0,
+      ap (λ (c : Cut). c.whole) cuts ∙ k.1,
+    )
 
 -- ---- white space and marks
 
@@ -98,8 +99,8 @@ name_piece name rest e =
     let u : until 93 X ≡ length name = ap (until 93) same ∙ prefix_here (λ b. not (b == 93)) name (93 ∷ rest) e refl in
     let less : length name < length X = omega (arith, length-append (name ++ 93 ∷ []) rest, length-append name (93 ∷ [])) in
     let span_is : name_span X ≡ closed (length name + 1) =
-        ap (λ (k : ℕ). let s : Span = if nat_lt k (length X) then closed (k + 1) else open_at_end k in s) u
-        ∙ if_true (nat_lt (length name) (length X)) (closed (length name + 1)) (open_at_end (length name)) (lt-ltb (length name) (length X) less) in
+    ap (λ (k : ℕ). let s : Span = if nat_lt k (length X) then closed (k + 1) else open_at_end k in s) u
+    ∙ if_true (nat_lt (length name) (length X)) (closed (length name + 1)) (open_at_end (length name)) (lt-ltb (length name) (length X) less) in
     let shorter : length name + 1 - 1 ≡ length name = omega arith in
     let content_is : take (length name + 1 - 1) X ≡ name = ap (λ (k : ℕ). take k X) shorter ∙ ap (take (length name)) same ∙ take-append_seam name (93 ∷ rest) in
     let size_is : 1 + (length name + 1) ≡ length (91 ∷ (name ++ 93 ∷ [])) = omega (arith, length-append name (93 ∷ [])) in
@@ -169,24 +170,24 @@ number_at first tail rest e n =
 number_tail : (whole decimals rest : List ℕ) → digits_len whole ≡ length whole → (decimals ≡ []) ⊎ ((f : List ℕ) × (decimals ≡ 46 ∷ f) × (1 ≤ length f) × (digits_len f ≡ length f)) → Free rest → number_len ((whole ++ decimals) ++ rest) ≡ length (whole ++ decimals)
 number_tail whole decimals rest e point free = ⊎_elim
     (λ (no : decimals ≡ []).
-      ap (λ (z : List ℕ). number_len ((whole ++ z) ++ rest)) no
-      ∙ ap (λ (z : List ℕ). number_len (z ++ rest)) (append-nil whole)
-      ∙ len_none whole rest e free
-      ∙ ap length (sym (append-nil whole))
-      ∙ ap (λ (z : List ℕ). length (whole ++ z)) (sym no))
+    ap (λ (z : List ℕ). number_len ((whole ++ z) ++ rest)) no
+    ∙ ap (λ (z : List ℕ). number_len (z ++ rest)) (append-nil whole)
+    ∙ len_none whole rest e free
+    ∙ ap length (sym (append-nil whole))
+    ∙ ap (λ (z : List ℕ). length (whole ++ z)) (sym no))
     (λ (yes : (f : List ℕ) × (decimals ≡ 46 ∷ f) × (1 ≤ length f) × (digits_len f ≡ length f)).
-      let f = yes.0 in
-      let long : length whole + 1 + length f ≡ length (whole ++ 46 ∷ f) = omega (arith, length-append whole (46 ∷ f)) in
-      ap (λ (z : List ℕ). number_len ((whole ++ z) ++ rest)) yes.1
-      ∙ ap number_len (append_assoc whole (46 ∷ f) rest)
-      ∙ len_some whole f rest e yes.2 yes.3 free
-      ∙ long
-      ∙ ap (λ (z : List ℕ). length (whole ++ z)) (sym yes.1))
+    let f = yes.0 in
+    let long : length whole + 1 + length f ≡ length (whole ++ 46 ∷ f) = omega (arith, length-append whole (46 ∷ f)) in
+    ap (λ (z : List ℕ). number_len ((whole ++ z) ++ rest)) yes.1
+    ∙ ap number_len (append_assoc whole (46 ∷ f) rest)
+    ∙ len_some whole f rest e yes.2 yes.3 free
+    ∙ long
+    ∙ ap (λ (z : List ℕ). length (whole ++ z)) (sym yes.1))
     point
 
 pub lex_number : (text rest : List ℕ) (ts : List Token) → Numeral text → Free rest → Lexes rest ts → Lexes (text ++ rest) (Number text ∷ ts)
 lex_number text rest ts m free h =
     let F : List ℕ → Type 0 = λ z. Lexes (z ++ rest) (Number z ∷ ts) in
     subst F (sym m.is)
-      (lexes_piece (m.first ∷ (m.whole ++ m.decimals)) rest (Some (Number (m.first ∷ (m.whole ++ m.decimals)))) ts (omega arith)
-        (number_at m.first (m.whole ++ m.decimals) rest m.digit (number_tail m.whole m.decimals rest m.digits m.point free)) h)
+    (lexes_piece (m.first ∷ (m.whole ++ m.decimals)) rest (Some (Number (m.first ∷ (m.whole ++ m.decimals)))) ts (omega arith)
+    (number_at m.first (m.whole ++ m.decimals) rest m.digit (number_tail m.whole m.decimals rest m.digits m.point free)) h)

@@ -33,8 +33,9 @@ joined_ended ps v w at = ap (λ (z : List Placed). let d : Cut = record { placed
 
 abbrev pub after_front : Bool → ℕ → ℕ → List ℕ → Option Front → Cut
 after_front comments n at text o = elim o [
-    None ↦ ended at false
-  | Some f ↦ joined (placed_of f.token at) f.span.closed (cut_from comments n (at + f.span.size) (drop f.span.size text)) ]
+  | None ↦ ended at false
+  | Some f ↦ joined (placed_of f.token at) f.span.closed (cut_from comments n (at + f.span.size) (drop f.span.size text))
+]
 
 pub cut_some : (comments : Bool) (n at : ℕ) (text : List ℕ) → 1 ≤ length text → cut_from comments (suc n) at text ≡ after_front comments n at text (front_of comments text)
 unfolding cut_from
@@ -53,18 +54,19 @@ cut_start comments text = (length text, omega arith, omega arith, refl)
 pub cut_more : (comments : Bool) (text rest further : List ℕ) (ps qs : List Placed) (v w : Bool) (at next : ℕ) (f : Front) → CutSoFar comments text ps v at rest → 1 ≤ length rest → Some f ≡ front_of comments rest → 1 ≤ f.span.size → f.span.size ≤ length rest → further ≡ drop f.span.size rest → next ≡ at + f.span.size → qs ≡ ps ++ placed_of f.token at → w ≡ (v && f.span.closed) → CutSoFar comments text qs w next further
 cut_more comments text rest further ps qs v w at next f (zero, le, len, so) some is one within more to put both = absurd (let h : ⊥ = omega (arith, le, some) in h)
 cut_more comments text rest further ps qs v w at next f (suc m, le, len, so) some is one within more to put both =
-    let less : length further ≡ length rest - f.span.size = ap length more ∙ length-drop f.span.size rest in
-    ( m
-    , omega (arith, le, less, one, within)
-    , omega (arith, len, less, within, to)
-    , so
-      ∙ ap (joined ps v) (cut_some comments m at rest some)
-      ∙ ap (λ (o : Option Front). joined ps v (after_front comments m at rest o)) (sym is)
-      ∙ joined_joined ps (placed_of f.token at) v f.span.closed (cut_from comments m (at + f.span.size) (drop f.span.size rest))
-      ∙ ap (λ (z : List Placed). joined z (v && f.span.closed) (cut_from comments m (at + f.span.size) (drop f.span.size rest))) (sym put)
-      ∙ ap (λ (z : Bool). joined qs z (cut_from comments m (at + f.span.size) (drop f.span.size rest))) (sym both)
-      ∙ ap (λ (z : ℕ). joined qs w (cut_from comments m z (drop f.span.size rest))) (sym to)
-      ∙ ap (λ (z : List ℕ). joined qs w (cut_from comments m next z)) (sym more) )
+    let less : length further ≡ length rest - f.span.size = ap length more ∙ length-drop f.span.size rest in (
+      m,
+      omega (arith, le, less, one, within),
+      omega (arith, len, less, within, to),
+      so
+          ∙ ap (joined ps v) (cut_some comments m at rest some)
+          ∙ ap (λ (o : Option Front). joined ps v (after_front comments m at rest o)) (sym is)
+          ∙ joined_joined ps (placed_of f.token at) v f.span.closed (cut_from comments m (at + f.span.size) (drop f.span.size rest))
+          ∙ ap (λ (z : List Placed). joined z (v && f.span.closed) (cut_from comments m (at + f.span.size) (drop f.span.size rest))) (sym put)
+          ∙ ap (λ (z : Bool). joined qs z (cut_from comments m (at + f.span.size) (drop f.span.size rest))) (sym both)
+          ∙ ap (λ (z : ℕ). joined qs w (cut_from comments m z (drop f.span.size rest))) (sym to)
+          ∙ ap (λ (z : List ℕ). joined qs w (cut_from comments m next z)) (sym more),
+    )
 
 pub cut_ended : (comments : Bool) (text rest : List ℕ) (ps : List Placed) (v : Bool) (at : ℕ) → CutSoFar comments text ps v at rest → rest ≡ [] → cut comments text ≡ record { placed = ps; stop = at; whole = v }
 cut_ended comments text rest ps v at so none =

@@ -62,7 +62,7 @@ decimals_at text u n at (b ∷ bs) e = by_point (b == 46) refl (nat_lt 0 (digits
         let here = IsCharBoundary-after_ascii text n u h.0 point in
         let more = IsUtf8-drop text (n + 1) u here in
         IsCharBoundary-from_rest text (n + 1) (digits_len bs) (omega (arith, h.0))
-          (subst (λ (z : List ℕ). IsCharBoundary (drop (n + 1) text) (digits_len z)) h.2 (digits_boundary (drop (n + 1) text) more))
+        (subst (λ (z : List ℕ). IsCharBoundary (drop (n + 1) text) (digits_len z)) h.2 (digits_boundary (drop (n + 1) text) more))
 
 pub number_boundary : (text : List ℕ) → IsUtf8 text → IsCharBoundary text (number_len text)
 number_boundary text u = decimals_at text u (digits_len text) (digits_boundary text u) (drop (digits_len text) text) refl
@@ -212,7 +212,7 @@ number_at text inner bytes n u e f some is = after_first text inner n e some (su
 pub enclosed_at : (end : ℕ) (text inner bytes : List ℕ) (s t : Span) → end < 128 → IsUtf8 inner → inner ≡ drop 1 text → bytes ≡ inner → 1 ≤ length text → EndsWith end bytes s → t ≡ behind 1 s → IsCharBoundary text t.size
 enclosed_at end text inner bytes s t less u e f some ends is =
     subst (λ (z : Span). IsCharBoundary text z.size) (sym is)
-      (after_first text inner s.size e some (ends_boundary end inner s u less (subst (λ (z : List ℕ). EndsWith end z s) f ends)))
+    (after_first text inner s.size e some (ends_boundary end inner s u less (subst (λ (z : List ℕ). EndsWith end z s) f ends)))
 
 pub comment_at : (text inner further bytes : List ℕ) (s t : Span) → IsUtf8 further → inner ≡ drop 1 text → further ≡ drop 1 inner → bytes ≡ further → 2 ≤ length text → EndsWith 47 bytes s → t ≡ behind 2 s → IsCharBoundary text t.size
 comment_at text inner further bytes s t u e g f some ends is =

@@ -28,7 +28,7 @@ parted (p ∷ ps) (t ∷ ts) rest e =
       after = h.after;
       parts = ap (λ (z : List Placed). p ∷ z) h.parts;
       front_is = ap (λ (z : List Token). p.token ∷ z) h.front_is ∙ ap (λ (x : Token). x ∷ ts) head;
-      rest_is = h.rest_is
+      rest_is = h.rest_is;
     }
 
 dropped : (a b : List Placed) → drop (length a) (a ++ b) ≡ b
@@ -57,7 +57,7 @@ fault_at {A} comments P text rest f =
       parts = s.parts;
       before = subst (λ (z : List Token). Begins P z) (sym s.front_is) f.before;
       here = stuck_of P c f.front s.before s.after s.front_is (subst (λ (z : List Token). Ends P f.front z) (sym s.rest_is) f.here);
-      place = ap (λ (z : List Placed). start_of z c.stop) (left_over c.placed s.before s.after (length rest) s.parts same)
+      place = ap (λ (z : List Placed). start_of z c.stop) (left_over c.placed s.before s.after (length rest) s.parts same);
     }
 
 -- tokens that spell a value in a text that has more than them: something is left open, or a byte begins no token
@@ -70,7 +70,7 @@ open_at {A} comments P text a short spelled =
       parts = sym (append-nil c.placed);
       before = ([], a, subst (λ (z : List Token). P z a) (sym (append-nil (tokens_of c.placed))) spelled);
       here = λ whole x s. let h : ⊥ = (let e : true ≡ false = sym whole ∙ short in cc) in h;
-      place = refl
+      place = refl;
     }
 
 -- ---- what a reader of a whole text owes, from what it owes of the tokens
@@ -90,12 +90,12 @@ text_spelled {A} comments P text c items a is it whole spelled =
 pub text_short : {A : Type 0} (comments : Bool) (P : Lang A) (text : List ℕ) (c : Cut) (items : List Placed) (a : A) → c ≡ cut comments text → items ≡ c.placed → c.whole ≡ false → P (tokens_of items) a → IsFaultAt comments P text c.stop
 text_short {A} comments P text c items a is it short spelled =
     subst (λ (z : Cut). IsFaultAt comments P text z.stop) (sym is)
-      (open_at comments P text a (ap (λ (z : Cut). z.whole) (sym is) ∙ short) (subst (λ (z : List Placed). P (tokens_of z) a) (it ∙ ap (λ (z : Cut). z.placed) is) spelled))
+    (open_at comments P text a (ap (λ (z : Cut). z.whole) (sym is) ∙ short) (subst (λ (z : List Placed). P (tokens_of z) a) (it ∙ ap (λ (z : Cut). z.placed) is) spelled))
 
 pub text_faulty : {A : Type 0} (comments : Bool) (P : Lang A) (text : List ℕ) (c : Cut) (items rest : List Placed) (at : ℕ) → c ≡ cut comments text → items ≡ c.placed → IsFault P (tokens_of items) (tokens_of rest) → at ≡ start_of (drop (length c.placed - length rest) c.placed) c.stop → IsFaultAt comments P text at
 text_faulty {A} comments P text c items rest at is it f place =
     subst (λ (z : ℕ). IsFaultAt comments P text z) (sym (place ∙ ap (λ (z : Cut). start_of (drop (length z.placed - length rest) z.placed) z.stop) is))
-      (fault_at comments P text rest (subst (λ (z : List Placed). IsFault P (tokens_of z) (tokens_of rest)) (it ∙ ap (λ (z : Cut). z.placed) is) f))
+    (fault_at comments P text rest (subst (λ (z : List Placed). IsFault P (tokens_of z) (tokens_of rest)) (it ∙ ap (λ (z : Cut). z.placed) is) f))
 
 pub text_none : {A : Type 0} (comments : Bool) (P : Lang A) (text : List ℕ) (c : Cut) (items rest : List Placed) → c ≡ cut comments text → items ≡ c.placed → IsFault P (tokens_of items) (tokens_of rest) → (a : A) → Spells comments P text a → ⊥
 text_none {A} comments P text c items rest is it f a spelled =

@@ -21,8 +21,9 @@ unfoldable pub cut_from : Bool → ℕ → ℕ → List ℕ → Cut
 cut_from comments zero at text = ended at true
 cut_from comments (suc n) at [] = ended at true
 cut_from comments (suc n) at (b ∷ bs) = elim (front_of comments (b ∷ bs)) [
-    None ↦ ended at false
-  | Some f ↦ joined (placed_of f.token at) f.span.closed (cut_from comments n (at + f.span.size) (drop f.span.size (b ∷ bs))) ]
+  | None ↦ ended at false
+  | Some f ↦ joined (placed_of f.token at) f.span.closed (cut_from comments n (at + f.span.size) (drop f.span.size (b ∷ bs)))
+]
 
 -- a text as its tokens with their places; no piece is empty, so there are no more of them than bytes
 abbrev pub cut : Bool → List ℕ → Cut

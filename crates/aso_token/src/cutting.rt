@@ -15,7 +15,11 @@ pub struct Cut<'a> {
     pub whole: bool,
 }
 
-fn put_token<'a>(token: Option<Token<'a>>, at: usize, placed: &mut Vec<Placed<'a>>) -> Result<(), NoMemory>
+fn put_token<'a>(
+    token: Option<Token<'a>>,
+    at: usize,
+    placed: &mut Vec<Placed<'a>>,
+) -> Result<(), NoMemory>
     ensures { OnOk result (placed.new.items ≡ placed.old.items ++ placed_of token.entry at) }
 {
     if let Some(token) = token {

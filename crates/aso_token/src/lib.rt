@@ -9,8 +9,10 @@ mod stop;
 mod token;
 
 pub use cutting::{Cut, cut_text};
-pub use front::{Front, Span};
 pub use marks::{after_comma, after_open, close};
 pub use number::parse_number;
 pub use stop::Stop;
 pub use token::{Mark, Piece, Placed, Token};
+
+#[cfg(test)]
+mod tests;

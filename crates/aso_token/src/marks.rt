@@ -10,7 +10,13 @@ pub fn after_comma<'s, 'a>(tokens: &'s [Placed<'a>]) -> Option<&'s [Placed<'a>]>
     ensures { option_map (λ x. (tt, tokens_of x.now)) result ≡ front_of comma_mark (tokens_of tokens.now) }
 {
     match tokens {
-        [Placed { token: Token::Mark(Mark::Comma), .. }, rest @ ..] => Some(rest),
+        [
+            Placed {
+                token: Token::Mark(Mark::Comma),
+                ..
+            },
+            rest @ ..,
+        ] => Some(rest),
         _ => None,
     }
 }
@@ -20,7 +26,13 @@ pub fn after_open<'s, 'a>(tokens: &'s [Placed<'a>]) -> Option<&'s [Placed<'a>]>
     ensures { option_map (λ x. (tt, tokens_of x.now)) result ≡ front_of open_mark (tokens_of tokens.now) }
 {
     match tokens {
-        [Placed { token: Token::Mark(Mark::Open), .. }, rest @ ..] => Some(rest),
+        [
+            Placed {
+                token: Token::Mark(Mark::Open),
+                ..
+            },
+            rest @ ..,
+        ] => Some(rest),
         _ => None,
     }
 }
@@ -30,7 +42,13 @@ pub fn close<'s, 'a>(tokens: &'s [Placed<'a>]) -> Result<&'s [Placed<'a>], Stop<
     ensures { Gives (λ x. (tt, tokens_of x.now)) result (read_one close_mark (tokens_of tokens.now)) }
 {
     match tokens {
-        [Placed { token: Token::Mark(Mark::Close), .. }, rest @ ..] => Ok(rest),
+        [
+            Placed {
+                token: Token::Mark(Mark::Close),
+                ..
+            },
+            rest @ ..,
+        ] => Ok(rest),
         _ => Err(Stop::At(tokens)),
     }
 }

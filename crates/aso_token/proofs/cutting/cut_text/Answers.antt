@@ -13,10 +13,11 @@ returns-in_default c =
 pub loop-rest-preserved : goal.loop-rest-preserved
 loop-rest-preserved c =
     let some : 1 ≤ length c.loop-rest.rest.now = first_of (grind (arith, c.is_empty.ensures, c.loop-rest-test.true), search rules) in
-    let f = c.in-Some.front in
-    ( cut_more c.args.comments c.args.text.now c.loop-rest.rest.now c.bytes_after-rest.result.now c.loop-rest.placed.items c.put_token.new.placed.items c.loop-rest.whole c.both-whole.result
-      c.loop-rest.at _ f c.loop-rest.invariant.0 some c.in-Some.ensures.value c.in-Some.ensures.some c.in-Some.ensures.boundary.0 c.bytes_after-rest.ensures refl c.in_ok-put_token.ensures c.both-whole.ensures
-    , c.bytes_after-rest.utf8 )
+    let f = c.in-Some.front in (
+      cut_more c.args.comments c.args.text.now c.loop-rest.rest.now c.bytes_after-rest.result.now c.loop-rest.placed.items c.put_token.new.placed.items c.loop-rest.whole c.both-whole.result
+          c.loop-rest.at _ f c.loop-rest.invariant.0 some c.in-Some.ensures.value c.in-Some.ensures.some c.in-Some.ensures.boundary.0 c.bytes_after-rest.ensures refl c.in_ok-put_token.ensures c.both-whole.ensures,
+      c.bytes_after-rest.utf8,
+    )
 
 pub returns : goal.returns
 returns c =

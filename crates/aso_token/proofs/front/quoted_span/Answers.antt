@@ -12,10 +12,11 @@ returns-then-quote_ended-clause-ends c = quoted_ended c.args.text.now c.loop-i.i
 pub loop-i-preserved : goal.loop-i-preserved
 loop-i-preserved c =
     let text = c.args.text.now in
-    let i = c.loop-i.i in
-    ( quoted_step text i c.loop-i.quote c.loop-i-test.true (sym c.quote_ended.ensures ∙ c.if-quote_ended.false) c.loop-i.invariant.0
-      ∙ ap (λ (q : Bool). behind (i + 1) (quoted_from q (drop (i + 1) text))) (sym c.is_lone_quote-quote.ensures)
-    , quoted_mark text i c.loop-i.quote c.is_lone_quote-quote.result c.is_lone_quote-quote.ensures )
+    let i = c.loop-i.i in (
+      quoted_step text i c.loop-i.quote c.loop-i-test.true (sym c.quote_ended.ensures ∙ c.if-quote_ended.false) c.loop-i.invariant.0
+          ∙ ap (λ (q : Bool). behind (i + 1) (quoted_from q (drop (i + 1) text))) (sym c.is_lone_quote-quote.ensures),
+      quoted_mark text i c.loop-i.quote c.is_lone_quote-quote.result c.is_lone_quote-quote.ensures,
+    )
 
 pub returns-clause-value : goal.returns-clause-value
 returns-clause-value c = sym (quoted_last c.args.text.now c.loop-i.i c.loop-i.quote (omega (arith, c.loop-i-test.false, c.loop-i.auto.i-end)) c.loop-i.invariant.0)
