@@ -8,7 +8,6 @@ use Rattle.std.proofs.lemmas.List.Elements.{filter_map-append}
 use Rattle.std.proofs.lemmas.List.Folds.{list_all_more}
 use Rattle.aso_tree.proofs.Positions.{position_cons}
 use Rattle.aso_outline.specs.declared.draft.Draft.{Draft}
-use Rattle.aso_outline.specs.declared.seat.Seat.{Seat}
 use Rattle.aso_outline.specs.Members.{Name, own_name, same_name, seats, find as number_of}
 use Rattle.aso_outline.specs.Ranks.{named}
 

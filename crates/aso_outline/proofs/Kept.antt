@@ -1,11 +1,9 @@
 -- What an outline that breaks no rule has.
 use Rattle.std.specs.Prelude.{is_some, if◌then◌else◌}
 use Rattle.std.specs.Option.{option_map}
-use Rattle.std.specs.List.{position}
-use Rattle.std.proofs.Common.{◌≡◌, ℕ, ◌&&◌, Bool, true, false, List, ◌∷◌, Option, Some, None, refl}
+use Rattle.std.proofs.Common.{◌≡◌, ℕ, Bool, true, false, List, ◌∷◌, Option, Some, None, refl}
 use Rattle.aso_outline.specs.declared.draft.Draft.{Draft}
-use Rattle.aso_outline.specs.Members.{seats}
-use Rattle.aso_outline.specs.Rules.{Rule, first_broken, rules, of_members, of_places, of_trees, broken, unless, is_counted, has_counts, is_plain, least, least_repeat, breaks_names, breaks_preorder}
+use Rattle.aso_outline.specs.Rules.{Rule, first_broken, of_members, of_places, of_trees, broken, unless, is_counted, has_counts, least, least_repeat, breaks_names, breaks_preorder}
 use Rattle.aso_outline.specs.Small.{IsSmall, HasTrees}
 use Rattle.aso_outline.proofs.AtSeats.{trees_of}
 use Rattle.aso_outline.proofs.Smalls.{small, and_left}
@@ -21,21 +19,18 @@ pub kept_if : (b : Bool) → unless b ≡ None → b ≡ true
 kept_if true h = refl
 kept_if false h = cc
 
-abbrev pub plain_rule : Rule
-plain_rule = (0, λ o. unless (is_plain o))
-
 abbrev pub counted_rule : Rule
 counted_rule = (1, λ o. unless (is_counted o))
 
 pub is_small : (o : Draft) → broken o ≡ None → IsSmall o
 unfolding broken
 is_small o h =
-    let counted : unless (is_counted o) ≡ None = (kept_first counted_rule of_members o (kept_first plain_rule (counted_rule ∷ of_members) o h).1).0 in
+    let counted : unless (is_counted o) ≡ None = (kept_first counted_rule of_members o h).0 in
     small o (and_left (has_counts o) _ (kept_if (is_counted o) counted))
 
 pub has_trees : (o : Draft) → broken o ≡ None → HasTrees o
 unfolding broken
 has_trees o h =
-    let members : first_broken of_members o ≡ None = (kept_first counted_rule of_members o (kept_first plain_rule (counted_rule ∷ of_members) o h).1).1 in
+    let members : first_broken of_members o ≡ None = (kept_first counted_rule of_members o h).1 in
     let places : first_broken of_places o ≡ None = (kept_first (3, least_repeat) of_places o (kept_first (2, least breaks_names) ((3, least_repeat) ∷ of_places) o members).1).1 in
     trees_of o (is_small o h) (kept_first (4, least breaks_preorder) of_trees o places).0

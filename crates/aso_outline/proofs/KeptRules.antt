@@ -1,34 +1,28 @@
 -- What follows from keeping the rules.
-use Rattle.std.specs.Prelude.{slice_get, unwrap_or, is_some, nat_lt, nat_le}
+use Rattle.std.specs.Prelude.{slice_get, unwrap_or, nat_le}
 use Rattle.std.specs.Option.{option_map}
 use Rattle.std.specs.List.{position, list_all}
-use Rattle.std.proofs.Common.{◌≡◌, ◌∙◌, ℕ, zero, suc, ◌+◌, ◌<◌, ◌≤◌, ◌^◌, ◌&&◌, ◌||◌, ◌⊎◌, ⊎_elim, inl, inr, Bool, true, false, not, cond, eqb, List, [], ◌∷◌, length, Option, Some, None, refl, sym, ap, arith, true≢false}
+use Rattle.std.proofs.Common.{◌≡◌, ℕ, zero, suc, ◌<◌, ◌≤◌, ◌&&◌, ◌⊎◌, ⊎_elim, Bool, true, false, not, cond, List, [], ◌∷◌, length, None, refl, sym, arith, true≢false}
 use Rattle.std.proofs.lemmas.Bool.{leb-true, ltb-true, eq-eqb}
-use Rattle.aso_tree.specs.Trees.{places_of}
 use Rattle.aso_outline.specs.declared.draft.Draft.{Draft}
 use Rattle.aso_outline.specs.declared.draft.DraftDim.{DraftDim}
 use Rattle.aso_outline.specs.declared.draft.DraftHier.{DraftHier}
-use Rattle.aso_outline.specs.declared.draft.DraftMember.{DraftMember}
-use Rattle.aso_outline.specs.declared.seat.Seat.{Seat}
-use Rattle.aso_outline.specs.declared.seat.Seat.TheVariants.{Whole, Inner, Carried}
+use Rattle.aso_outline.specs.declared.seat.Seat.TheVariants.{Inner}
 use Rattle.aso_outline.specs.Members.{tree, dim_at, no_dim, seats, data_leaves}
-use Rattle.aso_outline.specs.Rules.{Rule, first_broken, rules, broken, unless, is_plain, is_counted, has_counts, is_within, is_word, is_counted_dim, is_counted_attr, has_members, least, breaks_preorder, breaks_roots, has_data_leaf, is_alone, of_members, of_places, of_trees, of_sharing, least_repeat, breaks_names}
+use Rattle.aso_outline.specs.Rules.{first_broken, broken, is_counted, has_counts, is_within, is_word, is_counted_dim, has_members, least, breaks_preorder, breaks_roots, has_data_leaf, is_alone, of_members, of_places, of_trees, of_sharing, least_repeat, breaks_names}
 use Rattle.aso_outline.specs.Kept.{HasCounts, HasDataLeaves}
-use Rattle.aso_outline.specs.Small.{HasTrees}
 use Rattle.aso_outline.proofs.AtSeats.{none_at, none_whole}
-use Rattle.aso_outline.proofs.Kept.{kept_first, kept_if, plain_rule, counted_rule}
+use Rattle.aso_outline.proofs.Kept.{kept_first, kept_if, counted_rule}
 use Rattle.aso_outline.proofs.Smalls.{and_left, and_right}
 
 module _ (o : Draft) (kept : broken o ≡ None) where
-  after_plain : first_broken (counted_rule ∷ of_members) o ≡ None
-  unfolding broken
-  after_plain = (kept_first plain_rule (counted_rule ∷ of_members) o kept).1
-
   pub counted : is_counted o ≡ true
-  counted = kept_if (is_counted o) (kept_first counted_rule of_members o after_plain).0
+  unfolding broken
+  counted = kept_if (is_counted o) (kept_first counted_rule of_members o kept).0
 
   after_counts : first_broken of_members o ≡ None
-  after_counts = (kept_first counted_rule of_members o after_plain).1
+  unfolding broken
+  after_counts = (kept_first counted_rule of_members o kept).1
 
   after_names : first_broken ((3, least_repeat) ∷ of_places) o ≡ None
   after_names = (kept_first (2, least breaks_names) ((3, least_repeat) ∷ of_places) o after_counts).1

@@ -1,8 +1,7 @@
 -- What a draft is known to have once it keeps the rules.
-use Rattle.std.specs.Prelude.{◌≡◌, ◌<◌, ◌≤◌, ◌^◌, ℕ, length}
+use Rattle.std.specs.Prelude.{◌<◌, ◌≤◌, ℕ, length}
 use Rattle.aso_outline.specs.declared.draft.Draft.{Draft}
 use Rattle.aso_outline.specs.Members.{attr_tree, data_leaves, dim_at, seats, tree}
-use Rattle.aso_outline.specs.Rules.{key_bits}
 
 -- 1 to 16 base dimensions, at most 16 attribute dimensions, at most 1,048,576 members
 pub record HasCounts (o : Draft) : Type 0 where

@@ -20,7 +20,7 @@ use aso_num::NoMemory;
 use std::alloc::Global;
 
 /// The dimension of a base member.
-fn dim_of(seat: Seat) -> u32
+pub fn dim_of(seat: Seat) -> u32
     ensures { result ≡ dim_of seat }
 {
     match seat {

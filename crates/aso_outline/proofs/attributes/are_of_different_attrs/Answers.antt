@@ -1,4 +1,4 @@
-use Rattle.std.proofs.Common.{◌≡◌, ◌∙◌, ◌<◌, ◌≤◌, ℕ, Bool, leb, sym, ap, arith, length}
+use Rattle.std.proofs.Common.{◌<◌, ℕ, Bool, sym, ap, arith, length}
 use Rattle.std.specs.Prelude.{nat_le}
 use Rattle.std.proofs.lemmas.Bool.{le-leb, lt-leb}
 use Rattle.aso_outline.specs.Rules.{count_of_attr}

@@ -1,15 +1,15 @@
-use Rattle.std.proofs.Common.{rules, ◌≡◌, ◌∙◌, ◌<◌, ◌≤◌, ◌+◌, ◌||◌, ◌∷◌, Bool, ℕ, List, length, get_or, sym, ap, subst, arith}
+use Rattle.std.proofs.Common.{rules, ◌≡◌, ◌∙◌, ◌<◌, ◌+◌, ◌||◌, ◌∷◌, Bool, ℕ, List, length, get_or, sym, ap, subst, arith}
 use Rattle.std.specs.Prelude.{is_some}
 use Rattle.std.specs.List.{list_any}
 use Rattle.std.specs.HashMap.{get_by_text}
 use Rattle.aso_outline.specs.declared.seat.Seat.{Seat}
 use Rattle.aso_outline.specs.declared.seat.Seat.TheVariants.{Whole}
 use Rattle.aso_outline.specs.Members.{has, seats}
-use Rattle.aso_outline.specs.Rules.{breaks_sharing, is_shared_before, name_at, shares}
+use Rattle.aso_outline.specs.Rules.{breaks_sharing, name_at, shares}
 use Rattle.aso_tree.proofs.Firsts.{first_is, none_is}
 use Rattle.aso_tree.proofs.FaultLemmas.{longer}
 use Rattle.aso_outline.proofs.Follows.{Follows, after_first, follows_at}
-use Rattle.aso_outline.proofs.SharedNames.{before, begun, one_more, up_to}
+use Rattle.aso_outline.proofs.SharedNames.{begun, one_more, up_to}
 use Rattle.aso_outline.proofs.sharing.least_wrong_sharing.Goals as goal
 
 pub breaks_sharing-requires-clause-known : goal.breaks_sharing-requires-clause-known
