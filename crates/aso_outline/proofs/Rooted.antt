@@ -38,11 +38,11 @@ kept_labels o kept = each_kept rules o kept 7 (8, least breaks_labels) refl
 
 pub kept_sharing : (o : Draft) → broken o ≡ None → position (breaks_sharing o) (seats o) ≡ None
 unfolding broken
-kept_sharing o kept = each_kept rules o kept 6 (6, least breaks_sharing) refl
+kept_sharing o kept = each_kept rules o kept 5 (6, least breaks_sharing) refl
 
 pub kept_names : (o : Draft) → broken o ≡ None → position (repeats (own_names o)) (places_of (seats o)) ≡ None
 unfolding broken
-kept_names o kept = each_kept rules o kept 3 (3, least_repeat) refl
+kept_names o kept = each_kept rules o kept 2 (3, least_repeat) refl
 
 -- ---- roots
 

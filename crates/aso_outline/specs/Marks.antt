@@ -1,17 +1,13 @@
--- What stands at a member: its formula, operator and solve order.
+-- What stands at a member: its operator and solve order.
 use Rattle.std.specs.Prelude.{ℕ, Option, unwrap_or, if◌then◌else◌}
 use Rattle.std.specs.Option.{option_map, option_and_then}
 use Rattle.aso_outline.specs.declared.draft.Draft.{Draft}
 use Rattle.aso_outline.specs.declared.draft.DraftMember.{DraftMember}
-use Rattle.aso_outline.specs.declared.draft.Expr.{Expr}
 use Rattle.aso_outline.specs.declared.draft.Op.{Op}
 use Rattle.aso_outline.specs.declared.draft.Op.TheVariants.{Plus}
 use Rattle.aso_outline.specs.declared.seat.Seat.{Seat}
 use Rattle.aso_outline.specs.Members.{member_at}
 use Rattle.aso_outline.specs.Rules.{has_formula}
-
-abbrev pub formula_of : Draft → Seat → Option Expr
-formula_of o s = option_and_then (λ (m : DraftMember). m.formula) (member_at o s)
 
 -- a dimension's own member above several hierarchies has none of its own
 abbrev pub op_of : Draft → Seat → Op

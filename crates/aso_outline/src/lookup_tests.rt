@@ -1,5 +1,6 @@
 use super::*;
 use aso_num::{List, NoMemory, Text};
+use sqlite_items::Boxed;
 use std::alloc::Global;
 use std::test::Fail;
 
@@ -12,6 +13,8 @@ enum Mark {
     LabelOnly,
     Large,
     Small,
+    Margin,
+    Percent,
 }
 
 fn text(alloc: Global, name: &str) -> Result<Text, NoMemory> {
@@ -29,6 +32,37 @@ fn carried(alloc: Global, mark: Mark) -> Result<List<Text>, NoMemory> {
     Ok(List::of(names))
 }
 
+fn cell(alloc: Global, name: &str) -> Result<Expr, NoMemory> {
+    let mut names = Vec::new(alloc);
+    names.push(text(alloc, name)?)?;
+    Ok(Expr::Cell(List::of(names)))
+}
+
+fn bin(alloc: Global, op: Op, left: Expr, right: Expr) -> Result<Expr, NoMemory> {
+    Ok(Expr::Bin {
+        op,
+        left: Boxed::new(alloc, left)?,
+        right: Boxed::new(alloc, right)?,
+    })
+}
+
+fn margin(alloc: Global) -> Result<Expr, NoMemory> {
+    bin(alloc, Op::Minus, cell(alloc, "Sales")?, cell(alloc, "Cost")?)
+}
+
+fn percent(alloc: Global) -> Result<Expr, NoMemory> {
+    let ratio = bin(alloc, Op::Over, margin(alloc)?, cell(alloc, "Sales")?)?;
+    bin(alloc, Op::Times, ratio, Expr::Num(1_000_000))
+}
+
+fn formula(alloc: Global, mark: Mark) -> Result<Option<Expr>, NoMemory> {
+    match mark {
+        Mark::Margin => Ok(Some(margin(alloc)?)),
+        Mark::Percent => Ok(Some(percent(alloc)?)),
+        _ => Ok(None),
+    }
+}
+
 fn members(alloc: Global, rows: &[(&str, u32, Mark)]) -> Result<List<DraftMember>, NoMemory> {
     let mut members = Vec::new(alloc);
     for (name, parent, mark) in rows {
@@ -39,7 +73,7 @@ fn members(alloc: Global, rows: &[(&str, u32, Mark)]) -> Result<List<DraftMember
             label_only: *mark == Mark::LabelOnly,
             op: Op::Plus,
             solve: None,
-            formula: None,
+            formula: formula(alloc, *mark)?,
             carries: carried(alloc, *mark)?,
         })?;
     }
@@ -112,14 +146,14 @@ fn measures(alloc: Global) -> Result<DraftDim, NoMemory> {
             ("Measures", ROOT, Mark::LabelOnly),
             ("Sales", 0, Mark::Plain),
             ("Cost", 0, Mark::Plain),
-            ("Margin", 0, Mark::Plain),
-            ("Pct", 0, Mark::Plain),
+            ("Margin", 0, Mark::Margin),
+            ("Pct", 0, Mark::Percent),
         ],
     )?)?;
     dim(alloc, "Measures", hiers)
 }
 
-/// The Basic outline, but that no member has a formula.
+/// The Basic outline.
 fn basic(alloc: Global) -> Result<Draft, NoMemory> {
     let mut dims = Vec::new(alloc);
     dims.push(year(alloc)?)?;
@@ -196,8 +230,8 @@ fn members_by_number(rt: HostRuntime) -> Result<(), Fail> {
         (15, "Measures", 1, None, 16),
         (16, "Sales", 0, Some(0), 16),
         (17, "Cost", 0, Some(1), 17),
-        (18, "Margin", 0, Some(2), 18),
-        (19, "Pct", 0, Some(3), 19),
+        (18, "Margin", 0, None, 18),
+        (19, "Pct", 0, None, 19),
         (20, "Size", 1, None, 20),
         (21, "Large", 0, None, 21),
         (22, "Small", 0, None, 22),
@@ -207,7 +241,7 @@ fn members_by_number(rt: HostRuntime) -> Result<(), Fail> {
             assert_eq!(rt; outline.height(m), height, "at {m}");
             assert_eq!(rt; outline.leaf_of(m), leaf, "at {m}");
             assert_eq!(rt; outline.resolve(m), resolved, "at {m}");
-            assert_eq!(rt; outline.is_stored(m), m != 12, "at {m}");
+            assert_eq!(rt; outline.is_stored(m), m != 12 && m != 18 && m != 19, "at {m}");
         }
     }
     Ok(())

@@ -17,9 +17,10 @@ fn solve_order(member: &DraftMember) -> u8
 impl Outline {
     ghost use Rattle.std.specs.Prelude.{◌≡◌, ◌<◌, length};
     ghost use Rattle.std.specs.Option.{option_map};
-    ghost use Rattle.aso_outline.specs.Marks.{formula_of, op_of, solve_of};
+    ghost use Rattle.aso_outline.specs.Marks.{op_of, solve_of};
     ghost use Rattle.aso_outline.specs.Members.{member_at, seats};
     ghost use Rattle.aso_outline.specs.Numbers.{seat_of};
+    ghost use Rattle.aso_outline.specs.Ranks.{formula_of};
 
     fn member(&self, m: u32) -> Option<&DraftMember>
         requires { m < length (seats self.now) }
