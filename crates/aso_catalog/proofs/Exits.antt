@@ -3,7 +3,7 @@ use Rattle.std.proofs.Common.{◌≡◌, ◌⊎◌, inl, inr, ⊎_elim, ℕ, ◌
 use Rattle.std.specs.Prelude.{not, is_some, option_map, IfSome}
 use Rattle.std.specs.Int.{to_be_bytes, w32}
 use Rattle.aso_disk.specs.Slots.{Torn, Only, Outside, Runs, LeavesOnly, overwrite}
-use Rattle.aso_disk.proofs.Moments.{leaves, leaves_nothing, leaves_then}
+use Rattle.aso_disk.proofs.Moments.{leaves, leaves_nothing}
 use Rattle.aso_catalog.specs.Image.{area, framed, body_of, layout_of, open_body, OpensWith, IsBody, Stands, IsCatalog, IsOrNewer, BeforeOrDoubt}
 use Rattle.aso_catalog.proofs.Areas.{current_stays, behind_stays, gate_stays}
 use Rattle.aso_catalog.proofs.Chosen.{open_some, opens_shut, opens_kept}
@@ -28,19 +28,6 @@ standing moment left old current within layout present true kept s known was = l
 standing moment left old current within layout present false false s known was = absurd (cc (known refl))
 standing moment left old current within layout present false true s known was = leaves_nothing moment left old (BeforeOrDoubt (open_body (area current s)) false layout (body_of (area (1 - current) s)))
     (λ c is. ⊎_elim (λ e. inl e) (λ e. inr (refl, e.0, e.1)) (opens_kept current layout present false false s c (left old (moment old)) within was (was.each c is)))
-
--- the three parts of a publish
-pub publish_images : {D : Type 0} (moment : D → ℕ) (left : D → ℕ → List ℕ → Type 0) (old mid next new : D) (before b1 b2 : Option (List ℕ)) (shut : Bool) (layout : ℕ) (doubt x body : List ℕ)
-    → LeavesOnly moment left old mid (BeforeOrDoubt before shut layout doubt) → LeavesOnly moment left mid next (λ c. OpensWith c b1) → LeavesOnly moment left next new (λ c. OpensWith c b2 ⊎ OpensWith c (Some x))
-    → b1 ≡ before → b2 ≡ before → x ≡ body → LeavesOnly moment left old new (λ c. BeforeOrDoubt before shut layout doubt c ⊎ OpensWith c (Some body))
-publish_images moment left old mid next new before b1 b2 shut layout doubt x body one two three is_one is_two is_body =
-    let P0 : List ℕ → Type 0 = BeforeOrDoubt before shut layout doubt in
-    let P1 : List ℕ → Type 0 = λ c. OpensWith c b1 in
-    let P2 : List ℕ → Type 0 = λ c. OpensWith c b2 ⊎ OpensWith c (Some x) in
-    let R : List ℕ → Type 0 = λ c. BeforeOrDoubt before shut layout doubt c ⊎ OpensWith c (Some body) in
-    leaves_then moment left old next new P0 P2 R
-    (leaves_then moment left old mid next P0 P1 P0 one two (λ c e. e) (λ c e. inl (subst (OpensWith c) is_one e))) three (λ c e. inl e)
-    (λ c e. ⊎_elim (λ b. inl (inl (subst (OpensWith c) is_two b))) (λ b. inr (subst (λ (l : List ℕ). OpensWith c (Some l)) is_body b)) e)
 
 module _ {D : Type 0} (moment : D → ℕ) (left : D → ℕ → List ℕ → Type 0) (seen : D → Option (List ℕ)) (old new : D) (current : ℕ) (within : current ≤ 1) (layout : ℕ) (present shut kept : Bool) where
   abbrev pub Stood : Bool → Bool → Type 0
@@ -142,3 +129,47 @@ module _ {D : Type 0} (moment : D → ℕ) (left : D → ℕ → List ℕ → Ty
   gate_settles room stood wrote synced t now e =
       let s = told (seen old) (seen new) t wrote.2 now in
       (opened current within layout present s.0 t (left old (moment old)) (left new (moment new)) (stood s.0 s.1) (is_written at (1 ∷ []) s.0 t synced s.1 now) (omega (arith, room s.0 s.1)) (is_durable at (1 ∷ []) t synced now)).3 (not_false present e)
+
+  -- the current record is the one that it was
+  pub keeps : (from n : ℕ) → at ≤ from → from + n ≤ at + 131072 → Wrote from n → (r : Option (List ℕ)) → ((s : List ℕ) → seen old ≡ Some s → open_body (area current s) ≡ r) → (t : List ℕ) → seen new ≡ Some t → open_body (area current t) ≡ r
+  keeps from n low high wrote r has t now = let s = told (seen old) (seen new) t wrote.2 now in stays from n low high wrote s.0 t s.1 now ∙ has s.0 s.1
+
+  -- and so is what stands behind the other gate, while that is written
+  pub keeps_other : Wrote at 1 → (body : List ℕ) → ((s : List ℕ) → seen old ≡ Some s → body_of (area (1 - current) s) ≡ body) → (t : List ℕ) → seen new ≡ Some t → body_of (area (1 - current) t) ≡ body
+  keeps_other wrote body has t now = let s = told (seen old) (seen new) t wrote.2 now in doubt_stays wrote s.0 t s.1 now ∙ has s.0 s.1
+
+  -- an image is opened with the record before, or with a doubt that stood
+  abbrev pub Before : List ℕ → Type 0
+  Before c = (s : List ℕ) → seen old ≡ Some s → BeforeOrDoubt (open_body (area current s)) shut layout (body_of (area (1 - current) s)) c
+
+  pub before_nothing : (shut ≡ false → kept ≡ true) → Stood shut kept → LeavesOnly moment left old old Before
+  before_nothing known stood = leaves_nothing moment left old Before (λ c is s was. (standing moment left old current within layout present shut kept s known (stood s was)).each (moment old) c (omega arith) (omega arith) is)
+
+  pub before_gate : shut ≡ false → Stood false true → Wrote at 1 → LeavesOnly moment left old new Before
+  before_gate lax stood wrote = record {
+    later = wrote.0.later;
+    past = wrote.0.same;
+    each = λ k c from to is s was. ⊎_elim (λ e. inl e) (λ e. inr (lax, e.0, e.1)) ((any_moment_gate false stood wrote s was).each k c from to is);
+  }
+
+  pub before_fill : (b : Bool) (n : ℕ) → n ≤ 131071 → Stood true b → Wrote (at + 1) n → LeavesOnly moment left old new Before
+  before_fill b n small stood wrote = record {
+    later = wrote.0.later;
+    past = wrote.0.same;
+    each = λ k c from to is s was. inl ((any_moment_fill b n small stood wrote s was).each k c from to is);
+  }
+
+  pub before_open : Stood true true → Wrote at 1 → (body : List ℕ) → ((s : List ℕ) → seen old ≡ Some s → body_of (area (1 - current) s) ≡ body) → LeavesOnly moment left old new (λ c. Before c ⊎ OpensWith c (Some body))
+  before_open stood wrote body has = record {
+    later = wrote.0.later;
+    past = wrote.0.same;
+    each = λ k c from to is. by_told k c from to is (seen old) refl;
+  }
+    where
+      by_told : (k : ℕ) (c : List ℕ) → moment old ≤ k → k ≤ moment new → left new k c → (o : Option (List ℕ)) → seen old ≡ o → Before c ⊎ OpensWith c (Some body)
+      by_told k c from to is None e = inl (λ s was. absurd (cc (e, was)))
+      by_told k c from to is (Some s) e =
+          ⊎_elim
+          (λ x. inl (λ t was. let same : s ≡ t = cc (e, was) in inl (subst (λ (l : List ℕ). OpensWith c (open_body (area current l))) same x)))
+          (λ x. inr (subst (λ (l : List ℕ). OpensWith c (Some l)) (has s e) x))
+          ((any_moment_open stood wrote s e).each k c from to is)

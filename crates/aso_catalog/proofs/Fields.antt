@@ -2,7 +2,7 @@
 use Rattle.std.proofs.Common.{◌≡◌, ◌≢◌, ℕ, zero, suc, ◌+◌, ◌-◌, ◌*◌, ◌≤◌, ◌<◌, ◌^◌, List, [], ◌∷◌, ◌++◌, length, take, drop, true, inl, inr, Option, Some, None, refl, sym, ◌∙◌, ap, subst, arith, append_assoc, append-nil, length-append, length-drop, lit<, get_or, drop-cons}
 use Rattle.std.proofs.lemmas.List.{take_more, take-append-drop}
 use Rattle.std.proofs.lemmas.Bool.Decides.{eqb_tells}
-use Rattle.aso_bytes.specs.Spelling.{IsZig}
+use Rattle.aso_bytes.specs.Spelling.{IsZig, LacksRoom}
 use Rattle.aso_catalog.specs.Faults.{BadIs}
 use Rattle.aso_catalog.specs.declared.fault.RecordFault.{RecordFault}
 use Rattle.aso_catalog.specs.declared.fault.RecordFault.TheVariants.{Bad, NoMemory}
@@ -10,9 +10,10 @@ use Rattle.std.specs.Prelude.{ℤ, FitsSigned, slice_get, option_map, ◌==◌, 
 use Rattle.std.specs.Int.{from_be_bytes, to_be_bytes, w32, w64, w128}
 use Rattle.std.proofs.lemmas.Nat.{from_be_bytes-to_be_bytes_4, from_be_bytes-to_be_bytes_8}
 use Rattle.std.proofs.lemmas.List.{take_at, drop_at}
-use Rattle.aso_bytes.proofs.Spellings.{one_zig}
+use Rattle.aso_bytes.proofs.Spellings.{one_zig, length-zig}
+use Rattle.std.proofs.Math.Nat.{add-mul, one-mul, mul-le-mul_right}
 use Rattle.aso_catalog.specs.declared.record.LeafCell.{LeafCell}
-use Rattle.aso_catalog.specs.Record.{AreRising, AreNumbers, AreSmall, IsHead, IsCell, AreCells, IsAbove, last_leaves, leaves_text, magic}
+use Rattle.aso_catalog.specs.Record.{AreRising, AreNumbers, AreSmall, IsHead, IsCell, AreCells, IsAbove, last_leaves, leaves_text, longest_cell, magic}
 
 pub next32 : (m n : ℕ) (x y bytes : List ℕ) → m < 2 ^ 32 → n < 2 ^ 32 → bytes ≡ to_be_bytes w32 m ++ x → bytes ≡ to_be_bytes w32 n ++ y → (m ≡ n) × (x ≡ y)
 next32 m n x y bytes small also is_m is_n =
@@ -272,6 +273,24 @@ same_head l k d n a b c m o p x y bytes one two =
     let tails : X ≡ Y = cc in
     let counts = next32 n m x y X one.few two.few refl tails in
     (heads, counts.0, counts.1)
+
+-- pieces of at most k bytes each: one more, and that they are some of the whole
+pub one_more : (i k : ℕ) → (i + 1) * k ≡ i * k + k
+one_more i k = add-mul i 1 k ∙ ap (λ (n : ℕ). i * k + n) (one-mul k)
+
+pub some_more : (i n k : ℕ) → i < n → i * k + k ≤ n * k
+some_more i n k lt = subst (λ (x : ℕ). x ≤ n * k) (one_more i k) (mul-le-mul_right k (omega arith))
+
+-- a cell, and an amount for which there is no room
+pub cell_most : (n : ℕ) (cell : LeafCell) (bytes : List ℕ) → IsCell n cell bytes → length bytes ≤ longest_cell n
+cell_most n cell bytes is =
+    let long : length bytes ≡ length (leaves_text cell.leaves ++ is.amount) = ap length is.joined in
+    let count : length cell.leaves ≡ n = is.count in
+    let amount : length is.amount ≤ 19 = length-zig is.amount cell.amount is.fits is.spelled in
+    omega (arith, length-append (leaves_text cell.leaves) is.amount, length-leaves_text cell.leaves)
+
+pub amount_most : (z : ℤ) (capacity len : ℕ) → FitsSigned w128 z → LacksRoom (λ s. IsZig s z) capacity len → capacity < len + 19
+amount_most z capacity len fits lacks = let most = length-zig lacks.0 z fits lacks.1 in let less : capacity < len + length lacks.0 = lacks.2 in omega (arith, most)
 
 -- eight pieces, put one behind the other
 pub eight : (o a b c d e f g h m1 m2 m3 m4 m5 m6 m7 m8 : List ℕ) → m1 ≡ o ++ a → m2 ≡ m1 ++ b → m3 ≡ m2 ++ c → m4 ≡ m3 ++ d → m5 ≡ m4 ++ e → m6 ≡ m5 ++ f → m7 ≡ m6 ++ g → m8 ≡ m7 ++ h

@@ -5,3 +5,4 @@ pub mod Exits
 pub mod Views
 pub mod Fields
 pub mod Opened
+pub mod Since

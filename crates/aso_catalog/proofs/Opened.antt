@@ -1,13 +1,15 @@
 -- What opening finds is a catalog, and what it refuses is damaged.
-use Rattle.std.proofs.Common.{◌≡◌, ⊎_elim, ℕ, zero, suc, ◌-◌, ◌≤◌, ◌<◌, Bool, true, false, List, length, drop, Option, Some, None, refl, sym, ◌∙◌, ap, subst, arith}
-use Rattle.std.specs.Prelude.{not, MatchOption}
-use Rattle.aso_disk.specs.Slots.{Only}
+use Rattle.std.proofs.Common.{◌≡◌, ⊎_elim, ℕ, zero, suc, ◌*◌, ◌-◌, ◌≤◌, ◌<◌, Bool, true, false, List, [], ◌++◌, length, take, drop, Option, Some, None, refl, sym, ◌∙◌, ap, subst, arith, length-append}
+use Rattle.std.specs.Prelude.{not, MatchOption, IfSome, replicate}
+use Rattle.std.specs.Option.{ForSome}
+use Rattle.std.proofs.lemmas.List.{take_at, drop_at, take_all, length-replicate}
+use Rattle.aso_disk.specs.Slots.{Only, piece}
 use Rattle.aso_catalog.specs.declared.record.Record.{Record}
 use Rattle.aso_catalog.specs.declared.fault.CatalogFault.{CatalogFault}
 use Rattle.aso_catalog.specs.declared.fault.CatalogFault.TheVariants.{Short, BadArea, Twin, Fault, NoMemory}
 use Rattle.aso_catalog.specs.Record.{IsRecord}
-use Rattle.aso_catalog.specs.Image.{area, gate_of, body_of, layout_of, open_body, chosen, Stands, IsCatalog, IsWhole, OpensWith}
-use Rattle.aso_catalog.specs.Opening.{IsFound, IsChoice, IsOpening, IsBadArea, IsAreaFault, IsShortOrFault, IsDamage, HasLayout, HoldsLayout, of_area}
+use Rattle.aso_catalog.specs.Image.{area, gate_of, body_of, layout_of, open_body, chosen, Stands, IsCatalog, IsWhole, OpensWith, SomeImage}
+use Rattle.aso_catalog.specs.Opening.{IsFound, IsChoice, IsOpening, IsBad, IsBadArea, IsAreaFault, ReadsArea, IsShortOrFault, IsDamage, HasLayout, HoldsLayout, of_area}
 use Rattle.aso_catalog.proofs.Areas.{layout_named}
 use Rattle.aso_catalog.proofs.Chosen.{open_none, open_some, opens_shut, opens_kept}
 
@@ -15,27 +17,108 @@ found_whole : (bytes : List ℕ) (found : Option Record) → IsFound bytes found
 found_whole bytes None is gate = absurd (is.closed refl gate)
 found_whole bytes (Some r) is gate = let all = is.opened r refl in record { fits = all.1; r = r; spelled = all.2 }
 
-pub found_good : (a : ℕ) (image : List ℕ) (found : Option Record) → IsFound (area a image) found → IsBadArea a image → ⊥
-found_good a image found is bad = bad.1 (found_whole (area a image) found is bad.0)
+-- ---- some image, the one that is told, where one is told
 
-pub holds_layout : (a layout : ℕ) (image : List ℕ) (found : Option Record) → IsFound (area a image) found → HasLayout found layout → HoldsLayout a layout image
-holds_layout a layout image found is has = let all = is.opened has.0 has.1 in (has.0, all.0, all.2, has.2)
+pub told_is : (o : Option (List ℕ)) (image s : List ℕ) → IfSome o (λ seen. image ≡ seen) → o ≡ Some s → image ≡ s
+told_is o image s is was = let P : Option (List ℕ) → Type 0 = λ p. IfSome p (λ seen. image ≡ seen) in subst P was is
 
-pub size_damage : (image : List ℕ) (extent : ℕ) (fault : CatalogFault) → IsShortOrFault fault → ((size : ℕ) → fault ≡ Short size → (size ≡ extent) × (size < 262144)) → length image ≡ extent → IsDamage image fault
+first_of : (n : ℕ) (first second : List ℕ) → length first ≡ n → piece (n * 0) n (first ++ second) ≡ first
+first_of n first second long = let none : n * 0 ≡ 0 = omega arith in rw none (take_at first second n long)
+
+second_of : (n : ℕ) (first second : List ℕ) → length first ≡ n → length second ≡ n → piece (n * 1) n (first ++ second) ≡ second
+second_of n first second one two =
+    let once : n * 1 ≡ n = omega arith in
+    ap (λ (k : ℕ). take n (drop k (first ++ second))) once ∙ ap (λ (l : List ℕ). take n l) (drop_at first second n one) ∙ take_all n second (omega (arith, two))
+
+pub some_any : (told : Option (List ℕ)) (P : List ℕ → Type 0) → ((image : List ℕ) → P image) → SomeImage told P
+some_any None P has = record { image = []; is_told = tt; has = has [] }
+some_any (Some s) P has = record { image = s; is_told = refl; has = has s }
+
+pub some_sized : (told : Option (List ℕ)) (n : ℕ) (P : List ℕ → Type 0) → ForSome told (λ s. length s ≡ n) → ((image : List ℕ) → length image ≡ n → P image) → SomeImage told P
+some_sized None n P sized has = record { image = replicate n 0; is_told = tt; has = has (replicate n 0) (length-replicate n 0) }
+some_sized (Some s) n P sized has = record { image = s; is_told = refl; has = has s (sized s refl) }
+
+pub some_first : (told : Option (List ℕ)) (first : List ℕ) (P : List ℕ → Type 0) → length first ≡ 131072 → ForSome told (λ s. area 0 s ≡ first) → ForSome told (λ s. 262144 ≤ length s)
+    → ((image : List ℕ) → 262144 ≤ length image → area 0 image ≡ first → P image) → SomeImage told P
+unfolding area
+some_first None first P long one big has = record { image = first ++ first; is_told = tt; has = has (first ++ first) (omega (arith, long, length-append first first)) (first_of 131072 first first long) }
+some_first (Some s) first P long one big has = record { image = s; is_told = refl; has = has s (big s refl) (one s refl) }
+
+pub some_pair : (told : Option (List ℕ)) (first second : List ℕ) (P : List ℕ → Type 0) → length first ≡ 131072 → length second ≡ 131072 → ForSome told (λ s. area 0 s ≡ first) → ForSome told (λ s. area 1 s ≡ second) → ForSome told (λ s. 262144 ≤ length s)
+    → ((image : List ℕ) → 262144 ≤ length image → area 0 image ≡ first → area 1 image ≡ second → P image) → SomeImage told P
+unfolding area
+some_pair None first second P long also one two big has = record {
+  image = first ++ second;
+  is_told = tt;
+  has = has (first ++ second) (omega (arith, long, also, length-append first second)) (first_of 131072 first second long) (second_of 131072 first second long also);
+}
+some_pair (Some s) first second P long also one two big has = record { image = s; is_told = refl; has = has s (big s refl) (one s refl) (two s refl) }
+
+-- ---- refusals
+
+size_damage : (image : List ℕ) (extent : ℕ) (fault : CatalogFault) → IsShortOrFault fault → ((size : ℕ) → fault ≡ Short size → (size ≡ extent) × (size < 262144)) → length image ≡ extent → IsDamage image fault
 size_damage image extent (Short size) is short same = let found = short size refl in (found.0 ∙ sym same, found.1)
 size_damage image extent (BadArea a at) is short same = absurd is
 size_damage image extent (Twin layout) is short same = absurd is
 size_damage image extent Fault is short same = tt
 size_damage image extent NoMemory is short same = absurd is
 
-pub area_damage : (number : ℕ) (image : List ℕ) (seen : Option (List ℕ)) (fault : CatalogFault) → number ≤ 1 → IsAreaFault number seen fault → seen ≡ Some image → 262144 ≤ length image → (number ≡ 1 → IsBadArea 0 image → ⊥) → IsDamage image fault
-area_damage number image seen (Short size) le is told big first = absurd is
-area_damage number image seen (BadArea a at) le is told big first =
-    let same : a ≡ number = is.1 in
-    (big, is.0, omega arith, subst (λ (n : ℕ). IsBadArea n image) (sym same) (is.2 image told), λ e. first (sym same ∙ e))
-area_damage number image seen (Twin layout) le is told big first = absurd is
-area_damage number image seen Fault le is told big first = tt
-area_damage number image seen NoMemory le is told big first = tt
+-- a device that is too short, or fails
+pub short_damage : (told : Option (List ℕ)) (extent : ℕ) (fault : CatalogFault) → IsShortOrFault fault → ((size : ℕ) → fault ≡ Short size → (size ≡ extent) × (size < 262144)) → ForSome told (λ s. length s ≡ extent) → SomeImage told (λ image. IsDamage image fault)
+short_damage told extent fault is short sized = some_sized told extent (λ image. IsDamage image fault) sized (λ image same. size_damage image extent fault is short same)
+
+-- the first area is bad
+pub first_damage : (told : Option (List ℕ)) (fault : CatalogFault) → IsAreaFault 0 told fault → ForSome told (λ s. 262144 ≤ length s) → SomeImage told (λ image. IsDamage image fault)
+first_damage told (Short size) is big = absurd is
+first_damage told (BadArea a at) is big =
+    let same : a ≡ 0 = is.1 in
+    let read = is.2 in
+    some_first told read.bytes (λ image. IsDamage image (BadArea a at)) read.long read.is_told big
+    (λ image long one. (long, is.0, omega arith, subst (λ (n : ℕ). IsBadArea n image) (sym same) (subst IsBad (sym one) read.has), λ e. let one_is : 0 ≡ 1 = sym same ∙ e in absurd (omega arith)))
+first_damage told (Twin layout) is big = absurd is
+first_damage told Fault is big = some_any told (λ image. IsDamage image Fault) (λ image. tt)
+first_damage told NoMemory is big = some_any told (λ image. IsDamage image NoMemory) (λ image. tt)
+
+-- the second one is, and the first isn't
+pub second_damage : (told : Option (List ℕ)) (fault : CatalogFault) (first : Option Record) → ReadsArea 0 told (λ bytes. IsFound bytes first) → IsAreaFault 1 told fault → ForSome told (λ s. 262144 ≤ length s) → SomeImage told (λ image. IsDamage image fault)
+second_damage told (Short size) first good is big = absurd is
+second_damage told (BadArea a at) first good is big =
+    let same : a ≡ 1 = is.1 in
+    let read = is.2 in
+    some_pair told good.bytes read.bytes (λ image. IsDamage image (BadArea a at)) good.long read.long good.is_told read.is_told big
+    (λ image long one two.
+    (long, is.0, omega arith, subst (λ (n : ℕ). IsBadArea n image) (sym same) (subst IsBad (sym two) read.has), λ e bad. let here = subst IsBad one bad in here.1 (found_whole good.bytes first good.has here.0)))
+second_damage told (Twin layout) first good is big = absurd is
+second_damage told Fault first good is big = some_any told (λ image. IsDamage image Fault) (λ image. tt)
+second_damage told NoMemory first good is big = some_any told (λ image. IsDamage image NoMemory) (λ image. tt)
+
+holds_layout : (a layout : ℕ) (image bytes : List ℕ) (found : Option Record) → area a image ≡ bytes → IsFound bytes found → HasLayout found layout → HoldsLayout a layout image
+holds_layout a layout image bytes found same is has =
+    let all = is.opened has.0 has.1 in
+    let held = subst (λ (b : List ℕ). (gate_of b ≡ 1) × IsRecord has.0 (body_of b)) (sym same) (all.0, all.2) in
+    (has.0, held.0, held.1, has.2)
+
+-- both hold records of one layout
+pub twin_damage : (told : Option (List ℕ)) (layout : ℕ) (first second : Option Record) → ReadsArea 0 told (λ bytes. IsFound bytes first) → ReadsArea 1 told (λ bytes. IsFound bytes second) → HasLayout first layout → HasLayout second layout → ForSome told (λ s. 262144 ≤ length s)
+    → SomeImage told (λ image. IsDamage image (Twin layout))
+twin_damage told layout first second one two has also big =
+    some_pair told one.bytes two.bytes (λ image. IsDamage image (Twin layout)) one.long two.long one.is_told two.is_told big
+    (λ image long e f. (long, holds_layout 0 layout image one.bytes first e one.has has, holds_layout 1 layout image two.bytes second f two.has also))
+
+-- ---- what is opened
+
+pub some_opening : (told : Option (List ℕ)) (first second : Option Record) (current layout : ℕ) (present shut : Bool) (found : Option Record) → ReadsArea 0 told (λ bytes. IsFound bytes first) → ReadsArea 1 told (λ bytes. IsFound bytes second) → ForSome told (λ s. 262144 ≤ length s)
+    → IsChoice first second current layout present shut found → SomeImage told (λ image. IsOpening image current layout present shut found)
+some_opening told first second current layout present shut found one two big choice =
+    some_pair told one.bytes two.bytes (λ image. IsOpening image current layout present shut found) one.long two.long one.is_told two.is_told big
+    (λ image long e f.
+    record {
+      first = first;
+      second = second;
+      in_first = subst (λ (b : List ℕ). IsFound b first) (sym e) one.has;
+      in_second = subst (λ (b : List ℕ). IsFound b second) (sym f) two.has;
+      choice = choice;
+    })
 
 not_true : (b : Bool) → not b ≡ true → b ≡ false
 not_true true e = absurd (cc e)

@@ -1,6 +1,7 @@
 -- The catalog's device: two areas, each a gate byte, a body's length and the body.
-use Rattle.std.specs.Prelude.{ℕ, ◌+◌, ◌-◌, ◌*◌, ◌<◌, ◌≤◌, ◌≡◌, ◌≢◌, ◌⊎◌, [], Bool, true, false, List, take, drop, length, Option, Some, None, slice_index, nat_lt, ◌==◌, if◌then◌else◌}
+use Rattle.std.specs.Prelude.{ℕ, ◌+◌, ◌-◌, ◌*◌, ◌<◌, ◌≤◌, ◌≡◌, ◌≢◌, ◌⊎◌, Bool, true, false, List, take, drop, length, Option, Some, None, IfSome, slice_index, nat_lt, ◌==◌, if◌then◌else◌}
 use Rattle.std.specs.Int.{from_be_bytes, w32, w64}
+use Rattle.std.specs.Option.{ForSome}
 use Rattle.aso_disk.specs.Slots.{piece}
 use Rattle.aso_catalog.specs.declared.record.Record.{Record}
 use Rattle.aso_catalog.specs.Record.{IsRecord}
@@ -85,16 +86,6 @@ pub record IsCatalog (current layout : ℕ) (present shut kept : Bool) (seen : L
   pub ready : kept ≡ true → shut ≡ true → layout_of (body_of (area (1 - current) seen)) ≡ layout + 1
   pub each : (c : List ℕ) → left c → Stands current shut kept seen c
 
--- the current record's body, as a read gives it
-abbrev pub record_of : Option (List ℕ) → ℕ → Option (List ℕ)
-record_of None current = None
-record_of (Some seen) current = open_body (area current seen)
-
--- the body in the other area
-abbrev pub other_of : Option (List ℕ) → ℕ → List ℕ
-other_of None current = []
-other_of (Some seen) current = body_of (area (1 - current) seen)
-
 -- an image is opened with this body, or with another one whose layout is greater
 abbrev pub IsOrNewer : Option (List ℕ) → ℕ → List ℕ → List ℕ → Type 0
 IsOrNewer current layout body image = OpensWith image current ⊎ ((layout < layout_of body) × OpensWith image (Some body))
@@ -102,3 +93,20 @@ IsOrNewer current layout body image = OpensWith image current ⊎ ((layout < lay
 -- the same, where the other one counts only if its gate isn't known to be closed
 abbrev pub BeforeOrDoubt : Option (List ℕ) → Bool → ℕ → List ℕ → List ℕ → Type 0
 BeforeOrDoubt current shut layout body image = OpensWith image current ⊎ ((shut ≡ false) × (layout < layout_of body) × OpensWith image (Some body))
+
+-- some image has P: the one that a device tells, where it tells one
+pub record SomeImage (told : Option (List ℕ)) (P : List ℕ → Type 0) : Type 0 where
+  pub image : List ℕ
+  pub is_told : IfSome told (λ seen. image ≡ seen)
+  pub has : P image
+
+-- from some moment between old and new on, a crash leaves an image with P
+pub record FromSync {D : Type 0} (moment : D → ℕ) (left : D → ℕ → List ℕ → Type 0) (old new : D) (P : List ℕ → Type 0) : Type 0 where
+  pub at : ℕ
+  pub from : moment old ≤ at
+  pub to : at ≤ moment new
+  pub each : (k : ℕ) (c : List ℕ) → at ≤ k → k ≤ moment new → left new k c → P c
+
+-- the bytes that a device tells, where it tells them
+abbrev pub IsSeen : Option (List ℕ) → List ℕ → Type 0
+IsSeen told image = ForSome told (λ seen. image ≡ seen)

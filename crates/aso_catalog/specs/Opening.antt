@@ -1,5 +1,6 @@
 -- What opening finds in the two areas.
 use Rattle.std.specs.Prelude.{ℕ, zero, suc, ◌-◌, ◌<◌, ◌≤◌, ◌≡◌, ◌≢◌, Bool, true, false, List, drop, length, Option, Some, None}
+use Rattle.std.specs.Option.{ForSome}
 use Rattle.aso_catalog.specs.Image.{area, gate_of, body_of, size_in, IsWhole}
 use Rattle.aso_catalog.specs.Record.{IsRecord}
 use Rattle.aso_catalog.specs.declared.record.Record.{Record}
@@ -36,9 +37,12 @@ pub record IsOpening (image : List ℕ) (current layout : ℕ) (present shut : B
 abbrev pub HasLayout : Option Record → ℕ → Type 0
 HasLayout found layout = (r : Record) × (found ≡ Some r) × (r.layout ≡ layout)
 
--- an open area that holds no record
+-- the bytes of an open area that holds no record
+abbrev pub IsBad : List ℕ → Type 0
+IsBad bytes = (gate_of bytes ≡ 1) × (IsWhole (drop 1 bytes) → ⊥)
+
 abbrev pub IsBadArea : ℕ → List ℕ → Type 0
-IsBadArea a image = (gate_of (area a image) ≡ 1) × (IsWhole (drop 1 (area a image)) → ⊥)
+IsBadArea a image = IsBad (area a image)
 
 -- an open area that holds a record of this layout
 abbrev pub HoldsLayout : ℕ → ℕ → List ℕ → Type 0
@@ -52,13 +56,20 @@ IsDamage image (Twin layout) = (262144 ≤ length image) × HoldsLayout 0 layout
 IsDamage image Fault = Unit {0}
 IsDamage image NoMemory = Unit {0}
 
--- what a refusal of one area says of it, where the device tells its bytes
+-- bytes that were read as an area have P: they are those of the image that a device tells, where it tells one
+pub record ReadsArea (number : ℕ) (told : Option (List ℕ)) (P : List ℕ → Type 0) : Type 0 where
+  pub bytes : List ℕ
+  pub long : length bytes ≡ 131072
+  pub is_told : ForSome told (λ image. area number image ≡ bytes)
+  pub has : P bytes
+
+-- what a refusal of one area says of it
 abbrev pub IsAreaFault : ℕ → Option (List ℕ) → CatalogFault → Type 0
-IsAreaFault number seen (Short size) = ⊥
-IsAreaFault number seen (BadArea a at) = (at ≡ 0) × (a ≡ number) × ((image : List ℕ) → seen ≡ Some image → IsBadArea number image)
-IsAreaFault number seen (Twin layout) = ⊥
-IsAreaFault number seen Fault = Unit {0}
-IsAreaFault number seen NoMemory = Unit {0}
+IsAreaFault number told (Short size) = ⊥
+IsAreaFault number told (BadArea a at) = (at ≡ 0) × (a ≡ number) × ReadsArea number told IsBad
+IsAreaFault number told (Twin layout) = ⊥
+IsAreaFault number told Fault = Unit {0}
+IsAreaFault number told NoMemory = Unit {0}
 
 abbrev pub IsShortOrFault : CatalogFault → Type 0
 IsShortOrFault (Short size) = Unit {0}

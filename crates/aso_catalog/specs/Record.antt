@@ -1,5 +1,5 @@
 -- How a record is spelled in the bytes of a body: each record has one spelling, and nothing follows it.
-use Rattle.std.specs.Prelude.{ℕ, ◌<◌, ◌≤◌, ◌≡◌, ◌^◌, ◌⊎◌, ◌-◌, List, slice_get, option_map, [], ◌∷◌, ◌++◌, length, Option, Some, None, FitsSigned}
+use Rattle.std.specs.Prelude.{ℕ, ◌+◌, ◌*◌, ◌<◌, ◌≤◌, ◌≡◌, ◌^◌, ◌⊎◌, ◌-◌, List, slice_get, option_map, [], ◌∷◌, ◌++◌, length, Option, Some, None, FitsSigned}
 use Rattle.std.specs.Int.{to_be_bytes, w32, w64, w128}
 use Rattle.aso_bytes.specs.Spelling.{IsZig}
 use Rattle.aso_catalog.specs.declared.record.LeafCell.{LeafCell}
@@ -80,3 +80,11 @@ pub record IsStorable (r : Record) : Type 0 where
   pub most : r.dimensions ≤ 16
   pub few : length r.cells < 2 ^ 32
   pub rising : AreRising r.dimensions None r.cells
+
+-- the greatest length of a cell: four bytes a leaf, and 19 for an amount
+abbrev pub longest_cell : ℕ → ℕ
+longest_cell dimensions = 4 * dimensions + 19
+
+-- the greatest length of a record that has so long an outline, so many dimensions and so many cells
+abbrev pub longest : Record → ℕ
+longest r = 29 + length r.outline + length r.cells * longest_cell r.dimensions

@@ -1,45 +1,85 @@
--- A catalog as the layers above see it.
-use Rattle.std.specs.Prelude.{ℕ, ◌<◌, ◌≤◌, ◌≡◌, true, false, List, [], length, slice_index_or as get_or, Option, Some, IsSome}
+-- A catalog as the layers above see it. What it says of records is said for each device: of one that tells its bytes it
+-- is what a read gives, and of one that tells none it may be anything.
+use Rattle.std.specs.Prelude.{ℕ, ◌-◌, ◌<◌, ◌≤◌, ◌≡◌, true, false, Bool, List, [], length, slice_index_or as get_or, Option, Some, None, IsSome, MatchOption, is_some}
+use Rattle.std.specs.Option.{ForSome}
 use Rattle.aso_disk.specs.Slots.{LeavesOnly}
-use Rattle.aso_catalog.specs.Image.{record_of, other_of, BeforeOrDoubt, OpensWith, layout_of}
+use Rattle.aso_catalog.specs.Image.{area, body_of, open_body, chosen, layout_of, BeforeOrDoubt, IsSound, OpensWith}
+use Rattle.aso_catalog.specs.Record.{IsRecord}
+use Rattle.aso_catalog.specs.declared.record.Record.{Record}
 use Rattle.aso_catalog.specs.declared.catalog.Catalog.{Catalog}
+
+-- ---- the device
+
+-- the device that it stands on
+abbrev pub device_of : {C : Type 0} {g : _} → Catalog C g → C
+device_of {C} {g} catalog = catalog.slots
 
 -- the device tells its bytes
 abbrev pub IsTold : {C : Type 0} {g : _} → Catalog C g → Type 0
 IsTold {C} {g} catalog = IsSome (g.seen catalog.slots)
 
--- the body of its record, if it has one
-abbrev pub current_record : {C : Type 0} {g : _} → Catalog C g → Option (List ℕ)
-current_record {C} {g} catalog = record_of (g.seen catalog.slots) catalog.current
+-- the device tells its bytes afterwards exactly where it told them before
+abbrev pub TellsAlike : {C : Type 0} {g : _} → Catalog C g → Catalog C g → Type 0
+TellsAlike {C} {g} old new = is_some (g.seen new.slots) ≡ is_some (g.seen old.slots)
+
+-- ---- the record
 
 -- the layout of its record, or 0
 abbrev pub current_layout : {C : Type 0} {g : _} → Catalog C g → ℕ
 current_layout {C} {g} catalog = catalog.layout
 
--- the gate of the area that a publish would fill is known to be closed on the disk
-abbrev pub IsShut : {C : Type 0} {g : _} → Catalog C g → Type 0
-IsShut {C} {g} catalog = catalog.shut ≡ true
+-- its record has this body, or it has none
+abbrev pub HasRecord : {C : Type 0} {g : _} → Catalog C g → Option (List ℕ) → Type 0
+HasRecord {C} {g} catalog body = ForSome (g.seen catalog.slots) (λ seen. open_body (area catalog.current seen) ≡ body)
 
--- the body in the area that a publish would fill
-abbrev pub other_body : {C : Type 0} {g : _} → Catalog C g → List ℕ
-other_body {C} {g} catalog = other_of (g.seen catalog.slots) catalog.current
+-- its record is the one that it was
+abbrev pub KeepsRecord : {C : Type 0} {g : _} → Catalog C g → Catalog C g → Type 0
+KeepsRecord old new = (body : Option (List ℕ)) → HasRecord old body → HasRecord new body
 
--- a crash at any moment from old to new, of a device that tells its bytes, leaves an image with P
-abbrev pub Throughout : {C : Type 0} {g : _} → Catalog C g → Catalog C g → (List ℕ → Type 0) → Type 0
-Throughout {C} {g} old new P = IsSome (g.seen old.slots) → LeavesOnly g.moment g.left old.slots new.slots P
+-- ---- the area that a publish would fill
 
--- an image is opened with the record before, or with a doubt that stands
-abbrev pub IsBefore : {C : Type 0} {g : _} → Catalog C g → List ℕ → Type 0
-IsBefore {C} {g} catalog image = BeforeOrDoubt (current_record catalog) catalog.shut catalog.layout (other_of (g.seen catalog.slots) catalog.current) image
+-- its gate is known to be closed on the disk
+abbrev pub is_shut : {C : Type 0} {g : _} → Catalog C g → Bool
+is_shut {C} {g} catalog = catalog.shut
 
--- no doubt stands
-abbrev pub IsSettled : {C : Type 0} {g : _} → Catalog C g → Type 0
-IsSettled {C} {g} catalog = catalog.shut ≡ false → layout_of (other_of (g.seen catalog.slots) catalog.current) ≤ catalog.layout
+-- this body stands behind its gate
+abbrev pub HasOther : {C : Type 0} {g : _} → Catalog C g → List ℕ → Type 0
+HasOther {C} {g} catalog body = ForSome (g.seen catalog.slots) (λ seen. body_of (area (1 - catalog.current) seen) ≡ body)
+
+-- a record of the next layout stands on the disk behind the closed gate
+abbrev pub IsFilled : {C : Type 0} {g : _} → Catalog C g → Type 0
+IsFilled {C} {g} catalog = (catalog.shut ≡ true) × (catalog.kept ≡ true)
 
 -- this body stands behind a gate of which it isn't known whether it is open
 abbrev pub IsInDoubt : {C : Type 0} {g : _} → Catalog C g → List ℕ → Type 0
-IsInDoubt {C} {g} catalog body = (catalog.shut ≡ false) × (other_of (g.seen catalog.slots) catalog.current ≡ body)
+IsInDoubt catalog body = (is_shut catalog ≡ false) × HasOther catalog body
+
+-- what stands behind a gate that isn't known to be closed is no newer than the record: there is no doubt
+abbrev pub IsSettled : {C : Type 0} {g : _} → Catalog C g → Type 0
+IsSettled {C} {g} catalog = is_shut catalog ≡ false → ForSome (g.seen catalog.slots) (λ seen. layout_of (body_of (area (1 - catalog.current) seen)) ≤ catalog.layout)
+
+-- ---- images
+
+-- an image is opened with the record, or with a newer one that is in doubt
+abbrev pub IsBefore : {C : Type 0} {g : _} → Catalog C g → List ℕ → Type 0
+IsBefore {C} {g} catalog image = ForSome (g.seen catalog.slots) (λ seen. BeforeOrDoubt (open_body (area catalog.current seen)) catalog.shut catalog.layout (body_of (area (1 - catalog.current) seen)) image)
+
+-- an image that may be opened with the record or a doubt of afterwards might have been before
+abbrev pub NoNewDoubt : {C : Type 0} {g : _} → Catalog C g → Catalog C g → Type 0
+NoNewDoubt old new = (image : List ℕ) → IsBefore new image → IsBefore old image
+
+-- a crash at any moment from old to new leaves an image with P
+abbrev pub Throughout : {C : Type 0} {g : _} → Catalog C g → Catalog C g → (List ℕ → Type 0) → Type 0
+Throughout {C} {g} old new P = LeavesOnly g.moment g.left old.slots new.slots P
 
 -- an image is opened with one of these bodies
 abbrev pub IsOneOf : List (List ℕ) → List ℕ → Type 0
 IsOneOf bodies image = (i : ℕ) × (i < length bodies) × OpensWith image (Some (get_or bodies i []))
+
+-- ---- opening
+
+-- an image is opened with what was found, and the catalog has its record
+pub record IsOpened {C : Type 0} {g : _} (catalog : Catalog C g) (found : Option Record) (image : List ℕ) : Type 0 where
+  pub sound : IsSound image
+  pub holds : HasRecord catalog (chosen image)
+  pub gives : MatchOption found (chosen image ≡ None) (λ r. (body : List ℕ) × (chosen image ≡ Some body) × IsRecord r body)

@@ -1,10 +1,9 @@
-ghost use Rattle.std.specs.Prelude.{◌≡◌, ◌⊎◌, ◌+◌, ◌-◌, ◌<◌, ◌≤◌, ◌^◌, ◌++◌, List, ℕ, Some, None, Ok, Err, true, false, length, take, IfOk, IfErr, OnOk, OnErr, IfSome, IsErr, MatchOption, is_some, is_ok, Bool, ◌↔◌, if◌then◌else◌};
+ghost use Rattle.std.specs.Prelude.{◌≡◌, ◌≢◌, ◌⊎◌, ◌+◌, ◌<◌, ◌≤◌, ◌^◌, ◌-◌, ◌++◌, List, ℕ, Some, Err, true, false, length, take, IfOk, IfErr, OnOk, OnErr, IsErr, MatchOption, is_ok, Bool, ◌↔◌, if◌then◌else◌};
 ghost use Rattle.std.specs.Int.{to_be_bytes, w32};
 ghost use Rattle.aso_disk.specs.Causes.{HasCause, Rose};
-ghost use Rattle.aso_disk.specs.Slots.{LeavesOnly, Runs, Still, overwrite};
-ghost use Rattle.aso_catalog.specs.Image.{area, body_of, layout_of, open_body, chosen, OpensWith, IsBody, IsCatalog, IsSound, IsOrNewer, BeforeOrDoubt};
+ghost use Rattle.aso_disk.specs.Slots.{Runs, Still, overwrite};
+ghost use Rattle.aso_catalog.specs.Image.{FromSync, OpensWith, IsBody, IsCatalog, SomeImage};
 ghost use Rattle.aso_catalog.specs.Opening.{IsDamage};
-ghost use Rattle.aso_catalog.specs.Record.{IsRecord};
 
 use crate::Record;
 use crate::fault::{CatalogFault, PublishFault};
@@ -35,22 +34,27 @@ pub struct Catalog<C: Slots> {
 }
 
 impl<C: Slots> Catalog<C> {
-    ghost use Rattle.aso_catalog.specs.View.{IsTold, IsBefore, IsInDoubt, IsSettled, Throughout, current_record, current_layout};
+    ghost use Rattle.aso_catalog.specs.View.{HasOther, HasRecord, IsBefore, IsFilled, IsInDoubt, IsOpened, IsSettled, KeepsRecord, NoNewDoubt, TellsAlike, Throughout, current_layout, device_of, is_shut};
 
     /// Opens a catalog, with four device calls: it syncs, and takes the open area of greater layout, with the record in
     /// it, or with None where no gate is open. It takes the memory for the record and for a buffer in which later fills
     /// join a body to its length. An error hands the device back.
     pub fn open(alloc: Global, slots: C) -> Result<(Catalog<C>, Option<Record>), (C, CatalogFault)>
-        ensures opened { IfOk result (λ p. (image : List ℕ) → C.seen slots ≡ Some image → OpensWith image (current_record p.0)) }
-        ensures record_is { IfOk result (λ p. (image : List ℕ) → C.seen slots ≡ Some image → MatchOption p.1 (chosen image ≡ None) (λ r. (body : List ℕ) × (chosen image ≡ Some body) × IsRecord r body)) }
+        // What is found, or refused, is that of some image: the one that the device tells, where it tells one.
+        ensures opened { IfOk result (λ p. SomeImage (C.seen slots) (IsOpened p.0 p.1)) }
         ensures layout { IfOk result (λ p. MatchOption p.1 (current_layout p.0 ≡ 0) (λ r. current_layout p.0 ≡ r.layout)) }
-        ensures settled { IfOk result (λ p. IsTold p.0 → IsSettled p.0) }
-        ensures seen { IfOk result (λ p. C.seen p.0.slots ≡ C.seen slots) }
-        ensures crash { IfOk result (λ p. Runs Still (C.moment slots) (C.moment p.0.slots) (C.left slots) (C.left p.0.slots)) }
-        ensures same { IfOk result (λ p. C.same slots p.0.slots) }
-        ensures later { IfOk result (λ p. C.faults slots ≤ C.faults p.0.slots) }
-        ensures damaged { IfErr result (λ e. (image : List ℕ) → C.seen slots ≡ Some image → IsDamage image e.1) }
+        ensures settled { IfOk result (λ p. IsSettled p.0) }
+        ensures damaged { IfErr result (λ e. SomeImage (C.seen slots) (λ image. IsDamage image e.1)) }
         ensures short { IfErr result (λ e. (size : ℕ) → e.1 ≡ CatalogFault.Short size → (size ≡ C.extent slots) × (size < 262144)) }
+
+        // From the sync on, a crash leaves what is opened with the record. Until then, what it might have left before.
+        ensures synced { IfOk result (λ p. FromSync C.moment C.left slots (device_of p.0) (IsBefore p.0)) }
+
+        // The device keeps its bytes, and what crashes leave of them.
+        ensures seen { IfOk result (λ p. C.seen (device_of p.0) ≡ C.seen slots) }
+        ensures crash { IfOk result (λ p. Runs Still (C.moment slots) (C.moment (device_of p.0)) (C.left slots) (C.left (device_of p.0))) }
+        ensures same { IfOk result (λ p. C.same slots (device_of p.0)) }
+        ensures later { IfOk result (λ p. C.faults slots ≤ C.faults (device_of p.0)) }
         ensures seen_err { IfErr result (λ e. C.seen e.0 ≡ C.seen slots) }
         ensures crash_err { IfErr result (λ e. Runs Still (C.moment slots) (C.moment e.0) (C.left slots) (C.left e.0)) }
         ensures same_err { IfErr result (λ e. C.same slots e.0) }
@@ -98,14 +102,14 @@ impl<C: Slots> Catalog<C> {
 
     /// Whether the gate of the area that a publish would fill is known to be closed on the disk.
     pub fn is_shut(&self) -> bool
-        ensures { result ≡ self.now.shut }
+        ensures { result ≡ is_shut self.now }
     {
         self.shut
     }
 
     /// Gives the device back.
     pub fn into_slots(self) -> C
-        ensures { result ≡ self.slots }
+        ensures { result ≡ device_of self }
     {
         let Catalog {
             slots,
@@ -122,18 +126,15 @@ impl<C: Slots> Catalog<C> {
     /// Closes the gate of the area that a publish would fill, with two device calls. Until it has answered Ok, a doubt
     /// may stand.
     pub fn close_area(&mut self) -> Result<(), Failed>
-        requires { self.old.shut ≡ false }
-        ensures shut { OnOk result (self.new.shut ≡ true) }
-        ensures current { self.new.current ≡ self.old.current }
-        ensures layout { self.new.layout ≡ self.old.layout }
-        ensures present { self.new.present ≡ self.old.present }
-        ensures stays { (s t : List ℕ) → C.seen self.old.slots ≡ Some s → C.seen self.new.slots ≡ Some t → open_body (area self.old.current t) ≡ open_body (area self.old.current s) }
-        ensures doubt { OnErr result ((s t : List ℕ) → C.seen self.old.slots ≡ Some s → C.seen self.new.slots ≡ Some t → body_of (area (1 - self.old.current) t) ≡ body_of (area (1 - self.old.current) s)) }
-        ensures any_moment { (s : List ℕ) → C.seen self.old.slots ≡ Some s → LeavesOnly C.moment C.left self.old.slots self.new.slots
-            (IsOrNewer (open_body (area self.old.current s)) self.old.layout (body_of (area (1 - self.old.current) s))) }
-        ensures tells { is_some (C.seen self.new.slots) ≡ is_some (C.seen self.old.slots) }
-        ensures same { C.same self.old.slots self.new.slots }
-        ensures cause { HasCause (C.faults self.old.slots) (C.faults self.new.slots) (IsErr result) }
+        requires { is_shut self.old ≡ false }
+        ensures shut { OnOk result (is_shut self.new ≡ true) }
+        ensures doubt { OnErr result ((body : List ℕ) → IsInDoubt self.old body → IsInDoubt self.new body) }
+        ensures keeps { KeepsRecord self.old self.new }
+        ensures layout { current_layout self.new ≡ current_layout self.old }
+        ensures any_moment { Throughout self.old self.new (IsBefore self.old) }
+        ensures told { TellsAlike self.old self.new }
+        ensures same { C.same (device_of self.old) (device_of self.new) }
+        ensures cause { HasCause (C.faults (device_of self.old)) (C.faults (device_of self.new)) (IsErr result) }
     {
         write_through(&mut self.slots, AREA * (1 - self.current), &[0])?;
         self.shut = true;
@@ -143,20 +144,17 @@ impl<C: Slots> Catalog<C> {
 
     /// Writes length and body behind the closed gate, with two device calls. A crash within it leaves the current record.
     pub fn fill_area(&mut self, body: &[u8]) -> Result<(), Failed>
-        requires shut { self.old.shut ≡ true }
-        requires body { IsBody (self.old.layout + 1) body.now }
-        ensures shut { self.new.shut ≡ true }
-        ensures kept { OnOk result (self.new.kept ≡ true) }
-        ensures current { self.new.current ≡ self.old.current }
-        ensures layout { self.new.layout ≡ self.old.layout }
-        ensures present { self.new.present ≡ self.old.present }
-        ensures stays { (s t : List ℕ) → C.seen self.old.slots ≡ Some s → C.seen self.new.slots ≡ Some t → open_body (area self.old.current t) ≡ open_body (area self.old.current s) }
-        ensures filled { OnOk result ((t : List ℕ) → C.seen self.new.slots ≡ Some t → body_of (area (1 - self.old.current) t) ≡ body.now) }
-        ensures any_moment { (s : List ℕ) → C.seen self.old.slots ≡ Some s → LeavesOnly C.moment C.left self.old.slots self.new.slots
-            (λ image. OpensWith image (open_body (area self.old.current s))) }
-        ensures tells { is_some (C.seen self.new.slots) ≡ is_some (C.seen self.old.slots) }
-        ensures same { C.same self.old.slots self.new.slots }
-        ensures cause { HasCause (C.faults self.old.slots) (C.faults self.new.slots) (IsErr result) }
+        requires shut { is_shut self.old ≡ true }
+        requires body { IsBody (current_layout self.old + 1) body.now }
+        ensures shut { is_shut self.new ≡ true }
+        ensures filled { OnOk result (IsFilled self.new) }
+        ensures other { OnOk result (HasOther self.new body.now) }
+        ensures keeps { KeepsRecord self.old self.new }
+        ensures layout { current_layout self.new ≡ current_layout self.old }
+        ensures any_moment { Throughout self.old self.new (IsBefore self.old) }
+        ensures told { TellsAlike self.old self.new }
+        ensures same { C.same (device_of self.old) (device_of self.new) }
+        ensures cause { HasCause (C.faults (device_of self.old)) (C.faults (device_of self.new)) (IsErr result) }
     {
         self.kept = false;
         frame(&mut self.buffer, body);
@@ -172,21 +170,18 @@ impl<C: Slots> Catalog<C> {
     /// Opens the gate of the area that was filled, with two device calls. It is then the current one; an error leaves its
     /// body in doubt.
     pub fn open_area(&mut self) -> Result<(), Failed>
-        requires shut { self.old.shut ≡ true }
-        requires kept { self.old.kept ≡ true }
-        requires room { self.old.layout < 2 ^ 64 - 1 }
-        ensures opened { OnOk result ((s t : List ℕ) → C.seen self.old.slots ≡ Some s → C.seen self.new.slots ≡ Some t
-            → open_body (area self.new.current t) ≡ Some (body_of (area (1 - self.old.current) s))) }
-        ensures layout { OnOk result (self.new.layout ≡ self.old.layout + 1) }
-        ensures settled { OnOk result ((t : List ℕ) → C.seen self.new.slots ≡ Some t → self.new.shut ≡ false → layout_of (body_of (area (1 - self.new.current) t)) ≤ self.new.layout) }
-        ensures stays { OnErr result ((self.new.current ≡ self.old.current) × (self.new.layout ≡ self.old.layout) × (self.new.shut ≡ false)
-            × ((s t : List ℕ) → C.seen self.old.slots ≡ Some s → C.seen self.new.slots ≡ Some t
-            → (open_body (area self.new.current t) ≡ open_body (area self.old.current s)) × (body_of (area (1 - self.new.current) t) ≡ body_of (area (1 - self.old.current) s)))) }
-        ensures any_moment { (s : List ℕ) → C.seen self.old.slots ≡ Some s → LeavesOnly C.moment C.left self.old.slots self.new.slots
-            (λ image. OpensWith image (open_body (area self.old.current s)) ⊎ OpensWith image (Some (body_of (area (1 - self.old.current) s)))) }
-        ensures tells { is_some (C.seen self.new.slots) ≡ is_some (C.seen self.old.slots) }
-        ensures same { C.same self.old.slots self.new.slots }
-        ensures cause { HasCause (C.faults self.old.slots) (C.faults self.new.slots) (IsErr result) }
+        requires filled { IsFilled self.old }
+        requires room { current_layout self.old < 2 ^ 64 - 1 }
+        ensures opened { OnOk result ((body : List ℕ) → HasOther self.old body → HasRecord self.new (Some body)) }
+        ensures settled { OnOk result (IsSettled self.new) }
+        ensures next { OnOk result (current_layout self.new ≡ current_layout self.old + 1) }
+        ensures keeps { OnErr result (KeepsRecord self.old self.new) }
+        ensures doubt { OnErr result ((body : List ℕ) → HasOther self.old body → IsInDoubt self.new body) }
+        ensures layout { OnErr result (current_layout self.new ≡ current_layout self.old) }
+        ensures any_moment { (body : List ℕ) → HasOther self.old body → Throughout self.old self.new (λ image. IsBefore self.old image ⊎ OpensWith image (Some body)) }
+        ensures told { TellsAlike self.old self.new }
+        ensures same { C.same (device_of self.old) (device_of self.new) }
+        ensures cause { HasCause (C.faults (device_of self.old)) (C.faults (device_of self.new)) (IsErr result) }
     {
         match write_through(&mut self.slots, AREA * (1 - self.current), &[1]) {
             Ok(()) => {
@@ -206,15 +201,14 @@ impl<C: Slots> Catalog<C> {
 
     // Closes the gate where it isn't known to be closed.
     fn shut_area(&mut self) -> Result<(), Failed>
-        ensures shut { OnOk result (self.new.shut ≡ true) }
-        ensures current { self.new.current ≡ self.old.current }
-        ensures layout { self.new.layout ≡ self.old.layout }
-        ensures stays { (s t : List ℕ) → C.seen self.old.slots ≡ Some s → C.seen self.new.slots ≡ Some t → open_body (area self.old.current t) ≡ open_body (area self.old.current s) }
-        ensures any_moment { (s : List ℕ) → C.seen self.old.slots ≡ Some s → LeavesOnly C.moment C.left self.old.slots self.new.slots
-            (BeforeOrDoubt (open_body (area self.old.current s)) self.old.shut self.old.layout (body_of (area (1 - self.old.current) s))) }
-        ensures tells { is_some (C.seen self.new.slots) ≡ is_some (C.seen self.old.slots) }
-        ensures same { C.same self.old.slots self.new.slots }
-        ensures cause { HasCause (C.faults self.old.slots) (C.faults self.new.slots) (IsErr result) }
+        ensures shut { OnOk result (is_shut self.new ≡ true) }
+        ensures doubt { OnErr result (NoNewDoubt self.old self.new) }
+        ensures keeps { KeepsRecord self.old self.new }
+        ensures layout { current_layout self.new ≡ current_layout self.old }
+        ensures any_moment { Throughout self.old self.new (IsBefore self.old) }
+        ensures told { TellsAlike self.old self.new }
+        ensures same { C.same (device_of self.old) (device_of self.new) }
+        ensures cause { HasCause (C.faults (device_of self.old)) (C.faults (device_of self.new)) (IsErr result) }
     {
         if self.shut {
             return Ok(());
@@ -230,45 +224,26 @@ impl<C: Slots> Catalog<C> {
         requires { current_layout self.old < 2 ^ 64 - 1 → IsBody (current_layout self.old + 1) body.now }
 
         // After Ok it is the record, and no other is in doubt.
-        ensures published { OnOk result (IsTold self.old → current_record self.new ≡ Some body.now) }
-        ensures settled { OnOk result (IsTold self.old → IsSettled self.new) }
+        ensures published { OnOk result (HasRecord self.new (Some body.now)) }
+        ensures settled { OnOk result (IsSettled self.new) }
         ensures layout { current_layout self.new ≡ (if is_ok result then current_layout self.old + 1 else current_layout self.old) }
 
-        // After an error the record stays.
-        ensures stays { OnErr result (IsTold self.old → current_record self.new ≡ current_record self.old) }
-        ensures doubt { result ≡ Err (PublishFault.Fault true) → IsTold self.old → IsInDoubt self.new body.now }
+        // After an error the record stays, and there is no doubt but this one, where its gate was begun to be opened, or
+        // one that stood before.
+        ensures keeps { OnErr result (KeepsRecord self.old self.new) }
+        ensures doubt { result ≡ Err (PublishFault.Fault true) → IsInDoubt self.new body.now }
+        ensures no_new_doubt { OnErr result (result ≢ Err (PublishFault.Fault true) → NoNewDoubt self.old self.new) }
 
         // A crash leaves one of these; where the gate was not begun to be opened, not the new one.
         ensures any_moment { Throughout self.old self.new (λ image. IsBefore self.old image ⊎ OpensWith image (Some body.now)) }
-        ensures not_begun { result ≡ Err (PublishFault.Fault false) → Throughout self.old self.new (IsBefore self.old) }
+        ensures not_begun { OnErr result (result ≢ Err (PublishFault.Fault true) → Throughout self.old self.new (IsBefore self.old)) }
 
         // It doesn't give up by itself.
         ensures end { (result ≡ Err PublishFault.SeqEnd) ↔ (current_layout self.old ≡ 2 ^ 64 - 1) }
-        ensures cause { (in_doubt : Bool) → result ≡ Err (PublishFault.Fault in_doubt) → Rose (C.faults self.old.slots) (C.faults self.new.slots) }
-        ensures later { C.faults self.old.slots ≤ C.faults self.new.slots }
-        ensures told { IsTold self.old ↔ IsTold self.new }
-        ensures same { C.same self.old.slots self.new.slots }
-    {
-        self.publish_parts(body)
-    }
-
-    // The three parts, each of two device calls.
-    fn publish_parts(&mut self, body: &[u8]) -> Result<(), PublishFault>
-        requires { self.old.layout < 2 ^ 64 - 1 → IsBody (self.old.layout + 1) body.now }
-        ensures published { OnOk result ((t : List ℕ) → C.seen self.new.slots ≡ Some t → open_body (area self.new.current t) ≡ Some body.now) }
-        ensures settled { OnOk result ((t : List ℕ) → C.seen self.new.slots ≡ Some t → self.new.shut ≡ false → layout_of (body_of (area (1 - self.new.current) t)) ≤ self.new.layout) }
-        ensures layout { self.new.layout ≡ (if is_ok result then self.old.layout + 1 else self.old.layout) }
-        ensures stays { OnErr result ((s t : List ℕ) → C.seen self.old.slots ≡ Some s → C.seen self.new.slots ≡ Some t → open_body (area self.new.current t) ≡ open_body (area self.old.current s)) }
-        ensures doubt { (t : List ℕ) → result ≡ Err (PublishFault.Fault true) → C.seen self.new.slots ≡ Some t → (self.new.shut ≡ false) × (body_of (area (1 - self.new.current) t) ≡ body.now) }
-        ensures any_moment { (s : List ℕ) → C.seen self.old.slots ≡ Some s → LeavesOnly C.moment C.left self.old.slots self.new.slots
-            (λ c. BeforeOrDoubt (open_body (area self.old.current s)) self.old.shut self.old.layout (body_of (area (1 - self.old.current) s)) c ⊎ OpensWith c (Some body.now)) }
-        ensures begun { (s : List ℕ) → result ≡ Err (PublishFault.Fault false) → C.seen self.old.slots ≡ Some s → LeavesOnly C.moment C.left self.old.slots self.new.slots
-            (BeforeOrDoubt (open_body (area self.old.current s)) self.old.shut self.old.layout (body_of (area (1 - self.old.current) s))) }
-        ensures end { (result ≡ Err PublishFault.SeqEnd) ↔ (self.old.layout ≡ 2 ^ 64 - 1) }
-        ensures tells { is_some (C.seen self.new.slots) ≡ is_some (C.seen self.old.slots) }
-        ensures same { C.same self.old.slots self.new.slots }
-        ensures later { C.faults self.old.slots ≤ C.faults self.new.slots }
-        ensures cause { (in_doubt : Bool) → result ≡ Err (PublishFault.Fault in_doubt) → Rose (C.faults self.old.slots) (C.faults self.new.slots) }
+        ensures cause { (in_doubt : Bool) → result ≡ Err (PublishFault.Fault in_doubt) → Rose (C.faults (device_of self.old)) (C.faults (device_of self.new)) }
+        ensures later { C.faults (device_of self.old) ≤ C.faults (device_of self.new) }
+        ensures told { TellsAlike self.old self.new }
+        ensures same { C.same (device_of self.old) (device_of self.new) }
     {
         if self.layout == u64::MAX {
             return Err(PublishFault::SeqEnd);

@@ -1,9 +1,9 @@
-ghost use Rattle.std.specs.Prelude.{◌≡◌, ◌≢◌, ◌⊎◌, ◌+◌, ◌*◌, ◌<◌, ◌≤◌, Some, Ok, IfOk, IfErr, IfSome, IsErrOf, MatchOption, OnOk, OnErr, List, ℕ, length, drop, is_some};
-ghost use Rattle.aso_disk.specs.Causes.{HasCause, Rose};
+ghost use Rattle.std.specs.Prelude.{◌≡◌, ◌<◌, ◌≤◌, IfOk, IfErr, IfSome, IsErrOf, MatchOption, OnOk, ℕ, length};
+ghost use Rattle.aso_disk.specs.Causes.{Rose};
 ghost use Rattle.aso_disk.specs.Slots.{Only, Runs, Still};
 ghost use Rattle.aso_catalog.specs.Faults.{OnBad};
-ghost use Rattle.aso_catalog.specs.Image.{area, gate_of, IsWhole};
-ghost use Rattle.aso_catalog.specs.Opening.{HasLayout, IsAreaFault, IsShortOrFault, IsChoice, IsFound, IsOpening, IsBadArea, IsDamage};
+ghost use Rattle.aso_catalog.specs.Image.{FromSync, IsSeen, SomeImage};
+ghost use Rattle.aso_catalog.specs.Opening.{HasLayout, IsAreaFault, IsBad, IsShortOrFault, IsChoice, IsFound, IsOpening, IsDamage, ReadsArea};
 
 use crate::fault::CatalogFault;
 use crate::{Record, RecordFault, decode};
@@ -26,7 +26,7 @@ pub(crate) struct Choice {
 fn look(alloc: Global, bytes: &[u8]) -> Result<Option<Record>, RecordFault>
     requires { length bytes.now ≡ 131072 }
     ensures found { IfOk result (λ found. IsFound bytes.now found) }
-    ensures bad { OnBad result ((gate_of bytes.now ≡ 1) × (IsWhole (drop 1 bytes.now) → ⊥)) }
+    ensures bad { OnBad result (IsBad bytes.now) }
 {
     if bytes[0] != 1 {
         return Ok(None);
@@ -98,6 +98,7 @@ fn measure<C: Slots>(slots: &mut C) -> Result<(), CatalogFault>
     ensures short { (size : ℕ) → IsErrOf result (CatalogFault.Short size) → (size ≡ C.extent slots.old) × (size < 262144) }
     ensures others { IfErr result IsShortOrFault }
     ensures durable { OnOk result (IfSome (C.seen slots.new) (λ b. Only b (C.left slots.new (C.moment slots.new)))) }
+    ensures synced { OnOk result (FromSync C.moment C.left slots.old slots.new (IsSeen (C.seen slots.old))) }
     ensures seen { C.seen slots.new ≡ C.seen slots.old }
     ensures extent { C.extent slots.new ≡ C.extent slots.old }
     ensures crash { Runs Still (C.moment slots.old) (C.moment slots.new) (C.left slots.old) (C.left slots.new) }
@@ -127,7 +128,7 @@ fn read_area<C: Slots>(
     requires number { number ≤ 1 }
     requires space { length buffer.old ≡ 131072 }
     requires size { 262144 ≤ C.extent slots.old }
-    ensures found { IfOk result (λ found. (image : List ℕ) → C.seen slots.old ≡ Some image → IsFound (area number image) found) }
+    ensures found { IfOk result (λ found. ReadsArea number (C.seen slots.old) (λ bytes. IsFound bytes found)) }
     ensures bad { IfErr result (IsAreaFault number (C.seen slots.old)) }
     ensures seen { C.seen slots.new ≡ C.seen slots.old }
     ensures extent { C.extent slots.new ≡ C.extent slots.old }
@@ -158,11 +159,12 @@ pub(crate) fn survey<C: Slots>(
     requires { length buffer.old ≡ 131072 }
     ensures size { OnOk result (262144 ≤ C.extent slots.new) }
     ensures within { IfOk result (λ choice. choice.current ≤ 1) }
-    ensures found { IfOk result (λ choice. (image : List ℕ) → C.seen slots.old ≡ Some image → IsOpening image choice.current choice.layout choice.present choice.shut choice.found) }
+    ensures found { IfOk result (λ choice. SomeImage (C.seen slots.old) (λ image. IsOpening image choice.current choice.layout choice.present choice.shut choice.found)) }
     ensures layout { IfOk result (λ choice. MatchOption choice.found (choice.layout ≡ 0) (λ r. choice.layout ≡ r.layout)) }
-    ensures damaged { IfErr result (λ e. (image : List ℕ) → C.seen slots.old ≡ Some image → IsDamage image e) }
+    ensures damaged { IfErr result (λ e. SomeImage (C.seen slots.old) (λ image. IsDamage image e)) }
     ensures short { (size : ℕ) → IsErrOf result (CatalogFault.Short size) → (size ≡ C.extent slots.old) × (size < 262144) }
     ensures durable { OnOk result (IfSome (C.seen slots.new) (λ b. Only b (C.left slots.new (C.moment slots.new)))) }
+    ensures synced { OnOk result (FromSync C.moment C.left slots.old slots.new (IsSeen (C.seen slots.old))) }
     ensures seen { C.seen slots.new ≡ C.seen slots.old }
     ensures extent { C.extent slots.new ≡ C.extent slots.old }
     ensures crash { Runs Still (C.moment slots.old) (C.moment slots.new) (C.left slots.old) (C.left slots.new) }

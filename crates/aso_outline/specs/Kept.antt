@@ -1,7 +1,7 @@
 -- What a draft is known to have once it keeps the rules.
 use Rattle.std.specs.Prelude.{◌<◌, ◌≤◌, ℕ, length}
 use Rattle.aso_outline.specs.declared.draft.Draft.{Draft}
-use Rattle.aso_outline.specs.Members.{data_leaves, dim_at, seats}
+use Rattle.aso_outline.specs.Members.{attr_tree, data_leaves, dim_at, seats, tree}
 
 -- 1 to 16 base dimensions, at most 16 attribute dimensions, at most 1,048,576 members
 pub record HasCounts (o : Draft) : Type 0 where
@@ -13,3 +13,10 @@ pub record HasCounts (o : Draft) : Type 0 where
 -- each base dimension has a data leaf
 abbrev pub HasDataLeaves : Draft → Type 0
 HasDataLeaves o = (d : ℕ) → d < length o.dims → 0 < length (data_leaves (dim_at o d))
+
+-- each base dimension has 1 to 8 hierarchies, and each hierarchy and each attribute dimension has a root
+pub record HasRoots (o : Draft) : Type 0 where
+  pub some_hier : (d : ℕ) → d < length o.dims → 1 ≤ length (dim_at o d).hiers
+  pub few_hiers : (d : ℕ) → d < length o.dims → length (dim_at o d).hiers ≤ 8
+  pub trees : (d h : ℕ) → d < length o.dims → h < length (dim_at o d).hiers → 0 < length (tree (dim_at o d) h)
+  pub attrs : (a : ℕ) → a < length o.attrs → 0 < length (attr_tree o a)

@@ -1,5 +1,6 @@
 -- The data leaves of a tree of members.
-use Rattle.std.specs.Prelude.{ℕ, Bool, ◌&&◌, is_none, List}
+use Rattle.std.specs.Prelude.{ℕ, Bool, ◌&&◌, is_none, List, length, Option, Some, None, if◌then◌else◌}
+use Rattle.std.specs.List.{filter, range_with_len}
 use Rattle.aso_tree.specs.Trees.{is_leaf}
 use Rattle.aso_outline.specs.declared.draft.DraftMember.{DraftMember}
 use Rattle.aso_outline.specs.Members.{parents_of, member_is}
@@ -7,3 +8,7 @@ use Rattle.aso_outline.specs.Members.{parents_of, member_is}
 -- a leaf without a formula
 abbrev pub is_data_place : List DraftMember → ℕ → Bool
 is_data_place ms i = is_leaf (parents_of ms) i && member_is (λ m. is_none m.formula) ms i
+
+-- the ordinal of the data leaf at a place: how many stand before it
+abbrev pub ordinal_in : List DraftMember → ℕ → Option ℕ
+ordinal_in ms i = if is_data_place ms i then Some (length (filter (is_data_place ms) (range_with_len 0 i))) else None

@@ -13,7 +13,7 @@ use crate::trees::sound_tree;
 use aso_tree::is_leaf;
 
 /// A leaf without a formula.
-fn is_data_place(members: &[DraftMember], place: u32) -> bool
+pub fn is_data_place(members: &[DraftMember], place: u32) -> bool
     requires short { length members.now < 2 ^ 32 }
     requires tree { IsTree (parents_of members.now) }
     requires within { place < length members.now }

@@ -1,6 +1,6 @@
 use Rattle.std.proofs.Common.{◌-◌, ◌*◌, ◌∷◌, [], true, false, refl, sym, arith}
 use Rattle.std.proofs.lemmas.Result.{err_from_is_err_and}
-use Rattle.aso_catalog.proofs.Exits.{at_flags, stays, doubt_stays, gate_fails, gate_closes, any_moment_gate, Stood, Wrote, Synced, Room}
+use Rattle.aso_catalog.proofs.Exits.{at_flags, keeps, keeps_other, gate_fails, gate_closes, before_gate, Stood, Wrote, Synced, Room}
 use Rattle.aso_catalog.proofs.catalog.Catalog.close_area.Goals as goal
 
 pub invariant_of-self : goal.invariant_of-self
@@ -10,24 +10,24 @@ invariant_of-self g c =
     let stood : Stood g.C.Slots.moment g.C.Slots.left g.C.Slots.seen me.slots c.write_through.new.slots me.current me.within me.layout me.present me.shut me.kept false true = λ s was. at_flags me.current me.layout me.present me.shut me.kept false true s _ c.requires (me.known c.requires) (me.stands s was) in
     record { within = me.within; space = me.space; room = omega (arith, me.room, c.write_through.ensures.extent); known = me.known; stands = λ t now. at_flags me.current me.layout me.present false true me.shut me.kept t _ (sym c.requires) (sym (me.known c.requires)) (gate_fails g.C.Slots.moment g.C.Slots.left g.C.Slots.seen me.slots c.write_through.new.slots me.current me.within me.layout me.present me.shut me.kept false false refl stood wrote t now) }
 
-pub returns-in_err-write_through-clause-stays : goal.returns-in_err-write_through-clause-stays
-returns-in_err-write_through-clause-stays g c =
+pub returns-in_err-write_through-clause-keeps : goal.returns-in_err-write_through-clause-keeps
+returns-in_err-write_through-clause-keeps g c =
     let me = c.args.self.now in
     let wrote : Wrote g.C.Slots.moment g.C.Slots.left g.C.Slots.seen me.slots c.write_through.new.slots me.current me.within me.layout me.present me.shut me.kept (131072 * (1 - me.current)) 1 = (c.write_through.ensures.crash, c.write_through.ensures.outside, c.write_through.ensures.tells) in
-    λ s t was now. stays g.C.Slots.moment g.C.Slots.left g.C.Slots.seen me.slots c.write_through.new.slots me.current me.within me.layout me.present me.shut me.kept (131072 * (1 - me.current)) 1 (omega arith) (omega arith) wrote s t was now
+    λ r has t now. keeps g.C.Slots.moment g.C.Slots.left g.C.Slots.seen me.slots c.write_through.new.slots me.current me.within me.layout me.present me.shut me.kept (131072 * (1 - me.current)) 1 (omega arith) (omega arith) wrote r has t now
 
 pub returns-in_err-write_through-clause-doubt : goal.returns-in_err-write_through-clause-doubt
 returns-in_err-write_through-clause-doubt g c =
     let me = c.args.self.now in
     let wrote : Wrote g.C.Slots.moment g.C.Slots.left g.C.Slots.seen me.slots c.write_through.new.slots me.current me.within me.layout me.present me.shut me.kept (131072 * (1 - me.current)) 1 = (c.write_through.ensures.crash, c.write_through.ensures.outside, c.write_through.ensures.tells) in
-    let p = err_from_is_err_and c.from_residual.result c.from_residual.ensures.1 in rw p.1 (λ s t was now. doubt_stays g.C.Slots.moment g.C.Slots.left g.C.Slots.seen me.slots c.write_through.new.slots me.current me.within me.layout me.present me.shut me.kept wrote s t was now)
+    let p = err_from_is_err_and c.from_residual.result c.from_residual.ensures.1 in rw p.1 (λ body was. (was.0, λ t now. keeps_other g.C.Slots.moment g.C.Slots.left g.C.Slots.seen me.slots c.write_through.new.slots me.current me.within me.layout me.present me.shut me.kept wrote body was.1 t now))
 
 pub returns-in_err-write_through-clause-any_moment : goal.returns-in_err-write_through-clause-any_moment
 returns-in_err-write_through-clause-any_moment g c =
     let me = c.args.self.now in
     let wrote : Wrote g.C.Slots.moment g.C.Slots.left g.C.Slots.seen me.slots c.write_through.new.slots me.current me.within me.layout me.present me.shut me.kept (131072 * (1 - me.current)) 1 = (c.write_through.ensures.crash, c.write_through.ensures.outside, c.write_through.ensures.tells) in
     let stood : Stood g.C.Slots.moment g.C.Slots.left g.C.Slots.seen me.slots c.write_through.new.slots me.current me.within me.layout me.present me.shut me.kept false true = λ s was. at_flags me.current me.layout me.present me.shut me.kept false true s _ c.requires (me.known c.requires) (me.stands s was) in
-    λ s was. any_moment_gate g.C.Slots.moment g.C.Slots.left g.C.Slots.seen me.slots c.write_through.new.slots me.current me.within me.layout me.present me.shut me.kept false stood wrote s was
+    before_gate g.C.Slots.moment g.C.Slots.left g.C.Slots.seen me.slots c.write_through.new.slots me.current me.within me.layout me.present me.shut me.kept c.requires stood wrote
 
 pub invariant_of-self-2 : goal.invariant_of-self-2
 invariant_of-self-2 g c =
@@ -38,15 +38,15 @@ invariant_of-self-2 g c =
     let synced : Synced g.C.Slots.moment g.C.Slots.left g.C.Slots.seen me.slots c.write_through.new.slots me.current me.within me.layout me.present me.shut me.kept (131072 * (1 - me.current)) (0 ∷ []) = (c.in_ok-write_through.ensures.written, c.in_ok-write_through.ensures.durable) in
     record { within = me.within; space = me.space; room = omega (arith, me.room, c.write_through.ensures.extent); known = λ e. absurd (cc e); stands = λ t now. gate_closes g.C.Slots.moment g.C.Slots.left g.C.Slots.seen me.slots c.write_through.new.slots me.current me.within me.layout me.present me.shut me.kept room stood wrote synced t now }
 
-pub returns-clause-stays : goal.returns-clause-stays
-returns-clause-stays g c =
+pub returns-clause-keeps : goal.returns-clause-keeps
+returns-clause-keeps g c =
     let me = c.args.self.now in
     let wrote : Wrote g.C.Slots.moment g.C.Slots.left g.C.Slots.seen me.slots c.write_through.new.slots me.current me.within me.layout me.present me.shut me.kept (131072 * (1 - me.current)) 1 = (c.write_through.ensures.crash, c.write_through.ensures.outside, c.write_through.ensures.tells) in
-    λ s t was now. stays g.C.Slots.moment g.C.Slots.left g.C.Slots.seen me.slots c.write_through.new.slots me.current me.within me.layout me.present me.shut me.kept (131072 * (1 - me.current)) 1 (omega arith) (omega arith) wrote s t was now
+    λ r has t now. keeps g.C.Slots.moment g.C.Slots.left g.C.Slots.seen me.slots c.write_through.new.slots me.current me.within me.layout me.present me.shut me.kept (131072 * (1 - me.current)) 1 (omega arith) (omega arith) wrote r has t now
 
 pub returns-clause-any_moment : goal.returns-clause-any_moment
 returns-clause-any_moment g c =
     let me = c.args.self.now in
     let wrote : Wrote g.C.Slots.moment g.C.Slots.left g.C.Slots.seen me.slots c.write_through.new.slots me.current me.within me.layout me.present me.shut me.kept (131072 * (1 - me.current)) 1 = (c.write_through.ensures.crash, c.write_through.ensures.outside, c.write_through.ensures.tells) in
     let stood : Stood g.C.Slots.moment g.C.Slots.left g.C.Slots.seen me.slots c.write_through.new.slots me.current me.within me.layout me.present me.shut me.kept false true = λ s was. at_flags me.current me.layout me.present me.shut me.kept false true s _ c.requires (me.known c.requires) (me.stands s was) in
-    λ s was. any_moment_gate g.C.Slots.moment g.C.Slots.left g.C.Slots.seen me.slots c.write_through.new.slots me.current me.within me.layout me.present me.shut me.kept false stood wrote s was
+    before_gate g.C.Slots.moment g.C.Slots.left g.C.Slots.seen me.slots c.write_through.new.slots me.current me.within me.layout me.present me.shut me.kept c.requires stood wrote

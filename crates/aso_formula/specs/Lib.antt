@@ -1,0 +1,4 @@
+pub mod Answer
+pub mod Formula
+pub mod Printing
+pub mod Reading

@@ -1,0 +1,81 @@
+ghost use Rattle.std.specs.Prelude.{◌≡◌, ◌≢◌, ℕ, ◌*◌, ◌<◌, ◌≤◌, ◌^◌, List, length, Some, None};
+ghost use Rattle.std.specs.Option.{option_map};
+ghost use Rattle.std.specs.Ordering.{nat_cmp};
+ghost use Rattle.std.specs.Cmp.Lexicographic.{slice_cmp};
+ghost use Rattle.aso_keys.specs.Axes.{bits_of, AreClasses, key_of, fields_of, classes_of, AreCoarser};
+
+use crate::axis::Axis;
+use crate::keys::{fields_in, key_in, roll_in};
+use aso_num::List;
+use aso_words::Words;
+use std::marker::Model;
+
+/// Where the class of each dimension stands in the keys of a view. To a contract it is the list of its dimensions.
+/// No call but the making of one takes memory, and each costs a few operations a dimension.
+#[derive(Debug, Drop)]
+pub struct Layout {
+    axes: List<Axis>,
+    bits: u16,
+}
+
+impl Model for Layout {
+    ghost use Rattle.std.specs.Prelude.{◌≡◌, List};
+    ghost use Rattle.aso_keys.specs.declared.axis.Axis.{Axis};
+    ghost use Rattle.aso_keys.specs.Axes.{bits_of, ArePlaced};
+
+    ghost Value = { List Axis };
+
+    ghost view = { λ l. l.axes };
+
+    ghost invariant = { λ l. ArePlaced l.axes × (l.bits ≡ bits_of l.axes) };
+}
+
+impl Layout {
+    /// How many bits a key has.
+    pub fn bits(&self) -> u16
+        ensures { result ≡ bits_of self.now }
+    {
+        self.bits
+    }
+
+    /// The key that a class of each dimension writes. Keys stand in the order of the lists of classes.
+    pub fn key_of<const W: usize>(&self, classes: &[u32]) -> Words<W>
+        requires some { 1 ≤ W }
+        requires few { W ≤ 4 }
+        requires wide { bits_of self.now ≤ 64 * W }
+        requires classes { AreClasses self.now classes.now }
+        ensures written { result ≡ key_of self.now classes.now }
+        ensures bounded { result < 2 ^ bits_of self.now }
+        ensures read_back { fields_of self.now result ≡ classes.now }
+        ensures order { (others : List ℕ) → AreClasses self.now others → slice_cmp nat_cmp classes.now others ≡ nat_cmp result (key_of self.now others) }
+    {
+        key_in(self.axes.items(), classes)
+    }
+
+    /// The number in the bits of each dimension: the classes that the key was written of.
+    pub fn classes_of<const W: usize>(&self, key: &Words<W>, into: &mut [u32])
+        requires some { 1 ≤ W }
+        requires few { W ≤ 4 }
+        requires wide { bits_of self.now ≤ 64 * W }
+        requires long { length into.old ≡ length self.now }
+        ensures fields { into.new ≡ fields_of self.now key.now }
+        ensures read_back { (classes : List ℕ) → AreClasses self.now classes → key.now ≡ key_of self.now classes → into.new ≡ classes }
+        ensures written_again { key.now < 2 ^ bits_of self.now → key_of self.now into.new ≡ key.now }
+    {
+        fields_in(self.axes.items(), key, into);
+    }
+
+    /// The key at a coarser view. It is none exactly where a field of the key is no class that a data leaf has, or where
+    /// the leaves of a class have no class at the coarser view.
+    pub fn roll<const W: usize>(&self, key: &Words<W>, to: &Layout) -> Option<Words<W>>
+        requires some { 1 ≤ W }
+        requires few { W ≤ 4 }
+        requires wide { bits_of self.now ≤ 64 * W }
+        requires wide_to { bits_of to.now ≤ 64 * W }
+        requires coarser { AreCoarser to.now self.now }
+        ensures rolled { (leaves : List ℕ) → classes_of self.now leaves ≡ Some (fields_of self.now key.now) → result ≡ option_map (key_of to.now) (classes_of to.now leaves) }
+        ensures outside { ((leaves : List ℕ) → classes_of self.now leaves ≢ Some (fields_of self.now key.now)) → result ≡ None }
+    {
+        roll_in(self.axes.items(), to.axes.items(), key)
+    }
+}

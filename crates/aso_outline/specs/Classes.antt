@@ -1,0 +1,71 @@
+-- Data leaves by their ordinals, and their classes.
+use Rattle.std.specs.Prelude.{ℕ, zero, suc, Bool, false, not, ◌&&◌, List, [], length, Option, Some, None, if◌then◌else◌, slice_get, slice_index, unwrap_or}
+use Rattle.std.specs.Option.{option_map, option_and_then}
+use Rattle.std.specs.List.{list_any, position}
+use Rattle.aso_tree.specs.Trees.{class_count, class_of}
+use Rattle.aso_outline.specs.declared.draft.Draft.{Draft}
+use Rattle.aso_outline.specs.declared.draft.DraftMember.{DraftMember}
+use Rattle.aso_outline.specs.declared.seat.Seat.{Seat}
+use Rattle.aso_outline.specs.declared.seat.Seat.TheVariants.{Whole, Inner, Carried}
+use Rattle.aso_outline.specs.Leaves.{ordinal_in}
+use Rattle.aso_outline.specs.Members.{Name, attr_tree, data_leaves, dim_at, has_under, is_computed, leaf_names, member_at, parents_of, same_name, tree}
+use Rattle.aso_outline.specs.Rules.{is_shared, name_at}
+
+-- a member that isn't computed
+abbrev pub is_stored : Draft → Seat → Bool
+is_stored o s = not (is_computed o s)
+
+-- ---- data leaves
+
+abbrev pub leaf_count : Draft → ℕ → ℕ
+leaf_count o d = length (data_leaves (dim_at o d))
+
+-- the data leaf of an ordinal
+abbrev pub leaf_seat : Draft → ℕ → ℕ → Seat
+leaf_seat o d leaf = Inner d 0 (slice_index (data_leaves (dim_at o d)) leaf)
+
+-- the ordinal of the data leaf at a place of a dimension's first hierarchy
+abbrev pub leaf_ordinal : Draft → ℕ → ℕ → Option ℕ
+leaf_ordinal o d i = ordinal_in (tree (dim_at o d) 0) i
+
+-- the ordinal of the data leaf of a name
+abbrev pub leaf_named : Draft → ℕ → Name → Option ℕ
+leaf_named o d name = position (same_name name) (leaf_names (dim_at o d))
+
+-- the data leaf that a member is: itself, or the one that it shares
+abbrev pub leaf_of : Draft → Seat → Option ℕ
+leaf_of o (Inner d zero i) = leaf_ordinal o d i
+leaf_of o (Inner d (suc h) i) = if is_shared o (Inner d (suc h) i) then leaf_named o d (name_at o (Inner d (suc h) i)) else None
+leaf_of o s = None
+
+-- ---- classes
+
+abbrev pub is_sharer : Name → DraftMember → Bool
+is_sharer name m = m.shared && same_name name m.name
+
+-- the place of a data leaf in a hierarchy: in the first its own, in another that of the member which shares it
+abbrev pub leaf_place : Draft → ℕ → ℕ → ℕ → Option ℕ
+leaf_place o d zero leaf = slice_get (data_leaves (dim_at o d)) leaf
+leaf_place o d (suc h) leaf = option_and_then (λ name. position (is_sharer name) (tree (dim_at o d) (suc h))) (slice_get (leaf_names (dim_at o d)) leaf)
+
+-- The class of a data leaf at a level of a hierarchy: the leaf itself at level 0, else the highest member at or above it
+-- whose height is at most the level, numbered in the hierarchy's order. A leaf that the hierarchy doesn't have has none.
+abbrev pub class_at : Draft → ℕ → ℕ → ℕ → ℕ → Option ℕ
+class_at o d h zero leaf = Some leaf
+class_at o d h (suc level) leaf = option_and_then (class_of (parents_of (tree (dim_at o d) h)) (suc level)) (leaf_place o d h leaf)
+
+-- how many classes a level has
+abbrev pub classes_at : Draft → ℕ → ℕ → ℕ → ℕ
+classes_at o d h zero = leaf_count o d
+classes_at o d h (suc level) = class_count (parents_of (tree (dim_at o d) h)) (suc level)
+
+-- ---- attributes
+
+-- the attributes that a data leaf carries
+abbrev pub carried_names : Draft → ℕ → ℕ → List Name
+carried_names o d leaf = unwrap_or (option_map (λ (m : DraftMember). m.carries) (member_at o (leaf_seat o d leaf))) []
+
+-- the leaf carries the attribute member or one below it
+abbrev pub carries : Draft → ℕ → ℕ → Seat → Bool
+carries o d leaf (Carried a i) = list_any (has_under (attr_tree o a) i) (carried_names o d leaf)
+carries o d leaf s = false
