@@ -56,21 +56,21 @@ chain_one P between ts e p = ((e, []), (ts, [], sym (append-nil ts), p, (zero, (
 chain_snoc : (P : Lang Expr) (between : Token → Option Op) (xs ys : List Token) (t : Token) (left right : Expr) (o : Op) → LeftChain between P xs left → between t ≡ Some o → P ys right → LeftChain between P (xs ++ t ∷ ys) (Bin o left right)
 chain_snoc P between xs ys t left right o h e p =
     let v = h.0 in
-    let k = h.1 in
-    ( (v.0, v.1 ++ (o, right) ∷ [])
-    , (k.0, k.1 ++ t ∷ ys, ap (λ (z : List Token). z ++ t ∷ ys) k.2 ∙ append_assoc k.0 k.1 (t ∷ ys), k.3, (suc k.4.0, upto_snoc (Then (One between) P) k.4.0 k.1 (t ∷ ys) v.1 (o, right) k.4.1 (t ∷ [], ys, refl, (t, refl, e), p)))
-    , fold-append operated v.0 v.1 ((o, right) ∷ []) ∙ ap (λ (z : Expr). Bin o z right) h.2 )
+    let k = h.1 in (
+      (v.0, v.1 ++ (o, right) ∷ []),
+      (k.0, k.1 ++ t ∷ ys, ap (λ (z : List Token). z ++ t ∷ ys) k.2 ∙ append_assoc k.0 k.1 (t ∷ ys), k.3, (suc k.4.0, upto_snoc (Then (One between) P) k.4.0 k.1 (t ∷ ys) v.1 (o, right) k.4.1 (t ∷ [], ys, refl, (t, refl, e), p))),
+      fold-append operated v.0 v.1 ((o, right) ∷ []) ∙ ap (λ (z : Expr). Bin o z right) h.2,
+    )
 
 module _ (P : Lang Expr) (between : Token → Option Op) (R : List Token → Expr → Type 0)
     (step : (xs ys : List Token) (t : Token) (left right : Expr) (o : Op) → R xs left → between t ≡ Some o → P ys right → R (xs ++ t ∷ ys) (Bin o left right)) where
-
   upto_fold : (n : ℕ) (xs vs : List Token) (left : Expr) (all : List (Op × Expr)) → R xs left → UpTo n (Then (One between) P) vs all → R (xs ++ vs) (fold operated left all)
   upto_fold zero xs vs left all r h =
       subst (λ (z : List Token). R (xs ++ z) (fold operated left all)) (sym h.0)
-        (subst (λ (z : List (Op × Expr)). R (xs ++ []) (fold operated left z)) h.1 (subst (λ (z : List Token). R z left) (sym (append-nil xs)) r))
+      (subst (λ (z : List (Op × Expr)). R (xs ++ []) (fold operated left z)) h.1 (subst (λ (z : List Token). R z left) (sym (append-nil xs)) r))
   upto_fold (suc m) xs vs left all r (inr h) =
       subst (λ (z : List Token). R (xs ++ z) (fold operated left all)) (sym h.0)
-        (subst (λ (z : List (Op × Expr)). R (xs ++ []) (fold operated left z)) h.1 (subst (λ (z : List Token). R z left) (sym (append-nil xs)) r))
+      (subst (λ (z : List (Op × Expr)). R (xs ++ []) (fold operated left z)) h.1 (subst (λ (z : List Token). R z left) (sym (append-nil xs)) r))
   upto_fold (suc m) xs vs left all r (inl k) =
       let x : Op × Expr = k.0.0 in
       let more : List (Op × Expr) = k.0.1 in
@@ -89,7 +89,7 @@ module _ (P : Lang Expr) (between : Token → Option Op) (R : List Token → Exp
   chain_fold start ts e h =
       let k = h.1 in
       subst (λ (z : Expr). R ts z) h.2
-        (subst (λ (z : List Token). R z (fold operated h.0.0 h.0.1)) (sym k.2) (upto_fold k.4.0 k.0 k.1 h.0.0 h.0.1 (start k.0 h.0.0 k.3) k.4.1))
+      (subst (λ (z : List Token). R z (fold operated h.0.0 h.0.1)) (sym k.2) (upto_fold k.4.0 k.0 k.1 h.0.0 h.0.1 (start k.0 h.0.0 k.3) k.4.1))
 
 chain_more : (P Q : Lang Expr) (between : Token → Option Op) → ((ts : List Token) (e : Expr) → P ts e → Q ts e) → (ts : List Token) (e : Expr) → LeftChain between P ts e → LeftChain between Q ts e
 chain_more P Q between sub = chain_fold P between (LeftChain between Q)
@@ -206,7 +206,7 @@ written_sides o a b us vs some wa wb rest ws free h =
     let right : Lexes (op_text o ++ (b ++ rest)) (op_token o ∷ (vs ++ ws)) = lex_op o some (b ++ rest) (vs ++ ws) (wb rest ws free h) in
     let all : Lexes (a ++ (op_text o ++ (b ++ rest))) (us ++ op_token o ∷ (vs ++ ws)) = wa (op_text o ++ (b ++ rest)) (op_token o ∷ (vs ++ ws)) (refl, refl) right in
     subst (λ (z : List ℕ). Lexes z ((us ++ op_token o ∷ vs) ++ ws)) (sym (append_assoc a (op_text o ++ b) rest))
-      (subst (λ (z : List Token). Lexes (a ++ (op_text o ++ (b ++ rest))) z) (sym (append_assoc us (op_token o ∷ vs) ws)) all)
+    (subst (λ (z : List Token). Lexes (a ++ (op_text o ++ (b ++ rest))) z) (sym (append_assoc us (op_token o ∷ vs) ws)) all)
 
 written_parens : (b : Bool) (text : List ℕ) (us : List Token) → Written text us → Written (in_parens b text) (wrapped b us)
 written_parens false text us w rest vs free h =
@@ -215,12 +215,12 @@ written_parens true text us w rest vs free h =
     let inside : Lexes (text ++ 41 ∷ rest) (us ++ AMark Close ∷ vs) = w (41 ∷ rest) (AMark Close ∷ vs) (refl, refl) (lex_close rest vs h) in
     let all : Lexes (40 ∷ (text ++ 41 ∷ rest)) (AMark Open ∷ (us ++ AMark Close ∷ vs)) = lex_open (text ++ 41 ∷ rest) (us ++ AMark Close ∷ vs) inside in
     subst (λ (z : List ℕ). Lexes (40 ∷ z) (AMark Open ∷ ((us ++ AMark Close ∷ []) ++ vs))) (sym (append_assoc text (41 ∷ []) rest))
-      (subst (λ (z : List Token). Lexes (40 ∷ (text ++ 41 ∷ rest)) (AMark Open ∷ z)) (sym (append_assoc us (AMark Close ∷ []) vs)) all)
+    (subst (λ (z : List Token). Lexes (40 ∷ (text ++ 41 ∷ rest)) (AMark Open ∷ z)) (sym (append_assoc us (AMark Close ∷ []) vs)) all)
 
 good_bin : (o : Op) (l r : Expr) → (o ≡ op.Skip → ⊥) → Good l → Good r → Good (Bin o l r)
 good_bin o l r some gl gr k =
     written_as (shown (Bin o l r) k) _ (printed (Bin o l r) k) _ (shown_bin o l r k) (printed_bin o l r k)
-      (written_parens (nat_lt (level_of o) k) _ _ (written_sides o (shown l (level_of o)) (shown r (level_of o + 1)) (printed l (level_of o)) (printed r (level_of o + 1)) some (gl (level_of o)) (gr (level_of o + 1))))
+    (written_parens (nat_lt (level_of o) k) _ _ (written_sides o (shown l (level_of o)) (shown r (level_of o + 1)) (printed l (level_of o)) (printed r (level_of o + 1)) some (gl (level_of o)) (gr (level_of o + 1))))
 
 good_neg : (e : Expr) → Good e → Good (Neg e)
 good_neg e g k = written_as (shown (Neg e) k) (45 ∷ shown e 2) (printed (Neg e) k) (AMark Minus ∷ printed e 2) (shown_neg e k) (printed_neg e k)
@@ -244,7 +244,7 @@ written_more (n ∷ names) all rest vs h =
     let on = written_more names all.1 rest vs h in
     let here : Lexes (bracketed n ++ (more_names names ++ rest)) (Name n ∷ (separated names ++ vs)) = lex_name n (more_names names ++ rest) (separated names ++ vs) all.0 on in
     let front : Lexes (44 ∷ 32 ∷ (bracketed n ++ (more_names names ++ rest))) (AMark Comma ∷ Name n ∷ (separated names ++ vs)) =
-        lex_comma (32 ∷ (bracketed n ++ (more_names names ++ rest))) (Name n ∷ (separated names ++ vs)) (lex_space (bracketed n ++ (more_names names ++ rest)) (Name n ∷ (separated names ++ vs)) here) in
+    lex_comma (32 ∷ (bracketed n ++ (more_names names ++ rest))) (Name n ∷ (separated names ++ vs)) (lex_space (bracketed n ++ (more_names names ++ rest)) (Name n ∷ (separated names ++ vs)) here) in
     subst (λ (z : List ℕ). Lexes (44 ∷ 32 ∷ z) (AMark Comma ∷ Name n ∷ (separated names ++ vs))) (sym (append_assoc (bracketed n) (more_names names) rest)) front
 
 written_cell : (names : List (List ℕ)) → AllNames names → Written (cell_text names) (cell_tokens names)
@@ -256,7 +256,7 @@ written_cell (n ∷ m ∷ names) all rest vs free h =
     let first : Lexes (bracketed n ++ (more_names (m ∷ names) ++ 41 ∷ rest)) (Name n ∷ (separated (m ∷ names) ++ AMark Close ∷ vs)) = lex_name n (more_names (m ∷ names) ++ 41 ∷ rest) (separated (m ∷ names) ++ AMark Close ∷ vs) all.0 more in
     let front = lex_open (bracketed n ++ (more_names (m ∷ names) ++ 41 ∷ rest)) (Name n ∷ (separated (m ∷ names) ++ AMark Close ∷ vs)) first in
     subst (λ (z : List ℕ). Lexes (40 ∷ z) (cell_tokens (n ∷ m ∷ names) ++ vs)) (sym (append_assoc (bracketed n ++ more_names (m ∷ names)) (41 ∷ []) rest ∙ append_assoc (bracketed n) (more_names (m ∷ names)) (41 ∷ rest)))
-      (subst (λ (z : List Token). Lexes (40 ∷ (bracketed n ++ (more_names (m ∷ names) ++ 41 ∷ rest))) (AMark Open ∷ Name n ∷ z)) (sym (append_assoc (separated (m ∷ names)) (AMark Close ∷ []) vs)) front)
+    (subst (λ (z : List Token). Lexes (40 ∷ (bracketed n ++ (more_names (m ∷ names) ++ 41 ∷ rest))) (AMark Open ∷ Name n ∷ z)) (sym (append_assoc (separated (m ∷ names)) (AMark Close ∷ []) vs)) front)
 
 good_cell : (names : List (List ℕ)) → AllNames names → Good (Cell names)
 good_cell names all k = written_as (shown (Cell names) k) (cell_text names) (printed (Cell names) k) (cell_tokens names) (shown_cell names k) (printed_cell names k) (written_cell names all)
@@ -326,9 +326,9 @@ plain n ts e X p q r f few g =
         fit = record {
           sum = record { spelled = subst (λ (z : List Token). Sum (Factor n) z e) (sym p) sum; fewer = omega (arith, ap opens p, few) };
           level = inl (subst (λ (z : List Token). Factor n z e) (sym p) f, q ∙ sym p, r ∙ sym p);
-          good = g
-        }
-      }
+          good = g;
+        };
+      };
     }
 
 -- within parentheses that may be needless
@@ -339,27 +339,27 @@ nest n us ts e fit more =
     let sum : Sum (Factor (suc n)) (printed e 0) e = sum_more (Factor n) (Factor (suc n)) (factor_more n) (printed e 0) e fit.sum.spelled in
     ⊎_elim
     (λ (k : Factor n (printed e 0) e × (printed e 1 ≡ printed e 0) × (printed e 2 ≡ printed e 0)).
-      plain (suc n) ts e (printed e 0) refl k.1 k.2 (factor_more n (printed e 0) e k.0) (omega (arith, few, more)) fit.good)
+    plain (suc n) ts e (printed e 0) refl k.1 k.2 (factor_more n (printed e 0) e k.0) (omega (arith, few, more)) fit.good)
     (λ (k : (Term (Factor n) (printed e 0) e × (printed e 1 ≡ printed e 0) × (printed e 2 ≡ wrap (printed e 0))) ⊎ ((printed e 1 ≡ wrap (printed e 0)) × (printed e 2 ≡ wrap (printed e 0)))). ⊎_elim
-      (λ (j : Term (Factor n) (printed e 0) e × (printed e 1 ≡ printed e 0) × (printed e 2 ≡ wrap (printed e 0))).
-        let term : Term (Factor (suc n)) (printed e 0) e = chain_more (Factor n) (Factor (suc n)) product_mark (factor_more n) (printed e 0) e j.0 in
-        record {
-          factor = record { spelled = subst (λ (z : List Token). Factor (suc n) z e) (sym j.2) around; fewer = omega (arith, ap opens j.2, opens_wrap (printed e 0), few, more) };
-          term = record {
-            term = record { spelled = subst (λ (z : List Token). Term (Factor (suc n)) z e) (sym j.1) term; fewer = omega (arith, ap opens j.1, few, more) };
-            fit = record { sum = record { spelled = sum; fewer = omega (arith, few, more) }; level = inr (inl (term, j.1, j.2)); good = fit.good }
-          }
-        })
-      (λ (j : (printed e 1 ≡ wrap (printed e 0)) × (printed e 2 ≡ wrap (printed e 0))).
-        let term : Term (Factor (suc n)) (wrap (printed e 0)) e = chain_one (Factor (suc n)) product_mark (wrap (printed e 0)) e around in
-        record {
-          factor = record { spelled = subst (λ (z : List Token). Factor (suc n) z e) (sym j.1) around; fewer = omega (arith, ap opens j.1, opens_wrap (printed e 0), few, more) };
-          term = record {
-            term = record { spelled = subst (λ (z : List Token). Term (Factor (suc n)) z e) (sym j.0) term; fewer = omega (arith, ap opens j.0, opens_wrap (printed e 0), few, more) };
-            fit = record { sum = record { spelled = sum; fewer = omega (arith, few, more) }; level = inr (inr (j.0, j.1)); good = fit.good }
-          }
-        })
-      k)
+    (λ (j : Term (Factor n) (printed e 0) e × (printed e 1 ≡ printed e 0) × (printed e 2 ≡ wrap (printed e 0))).
+    let term : Term (Factor (suc n)) (printed e 0) e = chain_more (Factor n) (Factor (suc n)) product_mark (factor_more n) (printed e 0) e j.0 in
+    record {
+      factor = record { spelled = subst (λ (z : List Token). Factor (suc n) z e) (sym j.2) around; fewer = omega (arith, ap opens j.2, opens_wrap (printed e 0), few, more) };
+      term = record {
+        term = record { spelled = subst (λ (z : List Token). Term (Factor (suc n)) z e) (sym j.1) term; fewer = omega (arith, ap opens j.1, few, more) };
+        fit = record { sum = record { spelled = sum; fewer = omega (arith, few, more) }; level = inr (inl (term, j.1, j.2)); good = fit.good };
+      };
+    })
+    (λ (j : (printed e 1 ≡ wrap (printed e 0)) × (printed e 2 ≡ wrap (printed e 0))).
+    let term : Term (Factor (suc n)) (wrap (printed e 0)) e = chain_one (Factor (suc n)) product_mark (wrap (printed e 0)) e around in
+    record {
+      factor = record { spelled = subst (λ (z : List Token). Factor (suc n) z e) (sym j.1) around; fewer = omega (arith, ap opens j.1, opens_wrap (printed e 0), few, more) };
+      term = record {
+        term = record { spelled = subst (λ (z : List Token). Term (Factor (suc n)) z e) (sym j.0) term; fewer = omega (arith, ap opens j.0, opens_wrap (printed e 0), few, more) };
+        fit = record { sum = record { spelled = sum; fewer = omega (arith, few, more) }; level = inr (inr (j.0, j.1)); good = fit.good };
+      };
+    })
+    k)
     fit.level
 
 -- ---- operators
@@ -376,8 +376,8 @@ product_at n xs ys l r o mark some X is p q w fl br =
       fit = record {
         sum = record { spelled = subst (λ (z : List Token). Sum (Factor n) z e) (sym p) sum; fewer = omega (arith, ap opens p, few) };
         level = inr (inl (subst (λ (z : List Token). Term (Factor n) z e) (sym p) term, q ∙ sym p, w ∙ ap wrap (sym p)));
-        good = good_bin o l r some fl.fit.good br.term.fit.good
-      }
+        good = good_bin o l r some fl.fit.good br.term.fit.good;
+      };
     }
 
 sum_at : (n : ℕ) (xs ys : List Token) (l r : Expr) (o : Op) → sum_mark (op_token o) ≡ Some o → (o ≡ op.Skip → ⊥) → (X : List Token) → X ≡ printed l 0 ++ op_token o ∷ printed r 1 → printed (Bin o l r) 0 ≡ X → printed (Bin o l r) 1 ≡ wrap X → printed (Bin o l r) 2 ≡ wrap X → Fit n xs l → FitTerm n ys r → Fit n (xs ++ op_token o ∷ ys) (Bin o l r)
@@ -389,7 +389,7 @@ sum_at n xs ys l r o mark some X is p q w fl tr =
     record {
       sum = record { spelled = subst (λ (z : List Token). Sum (Factor n) z e) (sym p) sum; fewer = omega (arith, ap opens p, few) };
       level = inr (inr (q ∙ ap wrap (sym p), w ∙ ap wrap (sym p)));
-      good = good_bin o l r some fl.good tr.fit.good
+      good = good_bin o l r some fl.good tr.fit.good;
     }
 
 no_skip : (o : Op) → (o ≡ op.Times) ⊎ (o ≡ op.Over) → (o ≡ op.Skip → ⊥)
@@ -400,28 +400,27 @@ product_step : (n : ℕ) (xs ys : List Token) (t : Token) (l r : Expr) (o : Op) 
 product_step n xs ys (AMark Star) l r o e fl br =
     let is : op.Times ≡ o = cc in
     subst (λ (z : Op). FitTerm n (xs ++ AMark Star ∷ ys) (Bin z l r)) is
-      (product_at n xs ys l r op.Times refl (λ s. let h : ⊥ = cc in h) (printed l 1 ++ AMark Star ∷ printed r 2) refl (printed_bin op.Times l r 0) (printed_bin op.Times l r 1) (printed_bin op.Times l r 2) fl br)
+    (product_at n xs ys l r op.Times refl (λ s. let h : ⊥ = cc in h) (printed l 1 ++ AMark Star ∷ printed r 2) refl (printed_bin op.Times l r 0) (printed_bin op.Times l r 1) (printed_bin op.Times l r 2) fl br)
 product_step n xs ys (AMark Slash) l r o e fl br =
     let is : op.Over ≡ o = cc in
     subst (λ (z : Op). FitTerm n (xs ++ AMark Slash ∷ ys) (Bin z l r)) is
-      (product_at n xs ys l r op.Over refl (λ s. let h : ⊥ = cc in h) (printed l 1 ++ AMark Slash ∷ printed r 2) refl (printed_bin op.Over l r 0) (printed_bin op.Over l r 1) (printed_bin op.Over l r 2) fl br)
+    (product_at n xs ys l r op.Over refl (λ s. let h : ⊥ = cc in h) (printed l 1 ++ AMark Slash ∷ printed r 2) refl (printed_bin op.Over l r 0) (printed_bin op.Over l r 1) (printed_bin op.Over l r 2) fl br)
 product_step n xs ys t l r o e fl br = absurd (let h : ⊥ = cc in h)
 
 sum_step : (n : ℕ) (xs ys : List Token) (t : Token) (l r : Expr) (o : Op) → sum_mark t ≡ Some o → Fit n xs l → FitTerm n ys r → Fit n (xs ++ t ∷ ys) (Bin o l r)
 sum_step n xs ys (AMark Plus) l r o e fl tr =
     let is : op.Plus ≡ o = cc in
     subst (λ (z : Op). Fit n (xs ++ AMark Plus ∷ ys) (Bin z l r)) is
-      (sum_at n xs ys l r op.Plus refl (λ s. let h : ⊥ = cc in h) (printed l 0 ++ AMark Plus ∷ printed r 1) refl (printed_bin op.Plus l r 0) (printed_bin op.Plus l r 1) (printed_bin op.Plus l r 2) fl tr)
+    (sum_at n xs ys l r op.Plus refl (λ s. let h : ⊥ = cc in h) (printed l 0 ++ AMark Plus ∷ printed r 1) refl (printed_bin op.Plus l r 0) (printed_bin op.Plus l r 1) (printed_bin op.Plus l r 2) fl tr)
 sum_step n xs ys (AMark Minus) l r o e fl tr =
     let is : op.Minus ≡ o = cc in
     subst (λ (z : Op). Fit n (xs ++ AMark Minus ∷ ys) (Bin z l r)) is
-      (sum_at n xs ys l r op.Minus refl (λ s. let h : ⊥ = cc in h) (printed l 0 ++ AMark Minus ∷ printed r 1) refl (printed_bin op.Minus l r 0) (printed_bin op.Minus l r 1) (printed_bin op.Minus l r 2) fl tr)
+    (sum_at n xs ys l r op.Minus refl (λ s. let h : ⊥ = cc in h) (printed l 0 ++ AMark Minus ∷ printed r 1) refl (printed_bin op.Minus l r 0) (printed_bin op.Minus l r 1) (printed_bin op.Minus l r 2) fl tr)
 sum_step n xs ys t l r o e fl tr = absurd (let h : ⊥ = cc in h)
 
 -- ---- sums of terms of factors
 
 module _ (n : ℕ) (best : (ts : List Token) (e : Expr) → Factor n ts e → Clean ts → Best n ts e) where
-
   term_fit : (ts : List Token) (e : Expr) → Term (Factor n) ts e → Clean ts → FitTerm n ts e
   term_fit = chain_fold (Factor n) product_mark (λ ts e. Clean ts → FitTerm n ts e)
       (λ xs ys t l r o fl is f clean. product_step n xs ys t l r o is (fl (clean_left xs (t ∷ ys) clean)) (best ys r f (clean_right xs (t ∷ ys) clean).1))
@@ -477,12 +476,12 @@ num_is None e is = absurd (let h : ⊥ = cc in h)
 num_best : (n : ℕ) (ts : List Token) (a : ℕ) → a < 10 ^ 18 → Best n ts (Num (pos a))
 num_best n ts a less =
     plain n ts (Num (pos a)) (Number (units_text a) ∷ []) (printed_num (pos a) 0) (printed_num (pos a) 1) (printed_num (pos a) 2)
-      (atom_factor n (Number (units_text a) ∷ []) (Num (pos a)) (Number (units_text a), refl, ap (option_map Num) (units_number a less))) (omega arith) (good_num a less)
+    (atom_factor n (Number (units_text a) ∷ []) (Num (pos a)) (Number (units_text a), refl, ap (option_map Num) (units_number a less))) (omega arith) (good_num a less)
 
 name_best : (n : ℕ) (ts : List Token) (text : List ℕ) → HasNoEnd text → Best n ts (Cell (text ∷ []))
 name_best n ts text no_end =
     plain n ts (Cell (text ∷ [])) (Name text ∷ []) (printed_cell (text ∷ []) 0) (printed_cell (text ∷ []) 1) (printed_cell (text ∷ []) 2)
-      (atom_factor n (Name text ∷ []) (Cell (text ∷ [])) (Name text, refl, refl)) (omega arith) (good_cell (text ∷ []) (no_end, tt))
+    (atom_factor n (Name text ∷ []) (Cell (text ∷ [])) (Name text, refl, refl)) (omega arith) (good_cell (text ∷ []) (no_end, tt))
 
 atom_best : (n : ℕ) (ts : List Token) (e : Expr) (t : Token) → atom t ≡ Some e → IsCleanToken t → Best n ts e
 atom_best n ts e (Number text) is clean =
@@ -518,9 +517,9 @@ cell_best : (n : ℕ) (ts : List Token) (a b : List ℕ) (names : List (List ℕ
 cell_best n ts a b names all some =
     let all_names = a ∷ b ∷ names in
     let inside : Inside (Factor n) (Name a ∷ separated (b ∷ names)) (Cell all_names) =
-        inl (((a, tt), b ∷ names), (Name a ∷ AMark Comma ∷ [], Name b ∷ separated names, refl, (Name a ∷ [], AMark Comma ∷ [], refl, (Name a, refl, refl), (AMark Comma, refl, refl)), names_spelled b names), refl) in
+    inl (((a, tt), b ∷ names), (Name a ∷ AMark Comma ∷ [], Name b ∷ separated names, refl, (Name a ∷ [], AMark Comma ∷ [], refl, (Name a, refl, refl), (AMark Comma, refl, refl)), names_spelled b names), refl) in
     let nested : Factor (suc n) (cell_tokens all_names) (Cell all_names) =
-        inr (inl (((tt, Cell all_names), tt), (AMark Open ∷ Name a ∷ separated (b ∷ names), AMark Close ∷ [], refl, (AMark Open ∷ [], Name a ∷ separated (b ∷ names), refl, (AMark Open, refl, refl), inside), (AMark Close, refl, refl)), refl)) in
+    inr (inl (((tt, Cell all_names), tt), (AMark Open ∷ Name a ∷ separated (b ∷ names), AMark Close ∷ [], refl, (AMark Open ∷ [], Name a ∷ separated (b ∷ names), refl, (AMark Open, refl, refl), inside), (AMark Close, refl, refl)), refl)) in
     let few : opens (cell_tokens all_names) ≤ opens ts = omega (arith, opens_wrap (Name a ∷ separated (b ∷ names)), opens_separated (b ∷ names), some) in
     plain (suc n) ts (Cell all_names) (cell_tokens all_names) (printed_cell all_names 0) (printed_cell all_names 1) (printed_cell all_names 2) nested few (good_cell all_names all)
 
@@ -555,7 +554,7 @@ names_best n ts us e h clean some =
     let rest_clean = upto_clean j.4.0 j.1 w.1 j.4.1 (clean_right j.0 j.1 d) in
     let names = map (λ x. x.1) w.1 in
     subst (λ (z : Expr). Best (suc n) ts z) (ap (λ (z : List (List ℕ)). Cell (a ∷ z)) m.2 ∙ h.2)
-      (cell_best n ts a w.0 names (a_clean, (b_clean, rest_clean)) some)
+    (cell_best n ts a w.0 names (a_clean, (b_clean, rest_clean)) some)
 
 -- ---- factors of every depth
 
@@ -574,7 +573,7 @@ best (suc n) ts e (inl k) clean =
     let made : Factor (suc n) X (Neg x) = inl ((tt, x), (AMark Minus ∷ [], printed x 2, refl, (AMark Minus, refl, refl), b.factor.spelled), refl) in
     let few : opens X ≤ opens ts = omega (arith, ap opens k.1.2, opens_append us vs, b.factor.fewer) in
     subst (λ (z : Expr). Best (suc n) ts z) k.2
-      (plain (suc n) ts (Neg x) X (printed_neg x 0) (printed_neg x 1) (printed_neg x 2) made few (good_neg x b.term.fit.good))
+    (plain (suc n) ts (Neg x) X (printed_neg x 0) (printed_neg x 1) (printed_neg x 2) made few (good_neg x b.term.fit.good))
 best (suc n) ts e (inr (inl k)) clean =
     let j = k.1 in
     let i = j.3 in
@@ -584,9 +583,9 @@ best (suc n) ts e (inr (inl k)) clean =
     let more : 1 + opens i.1 ≤ opens ts = omega (arith, ap opens j.2, opens_append j.0 j.1, ap opens start, opens_open front.0 i.1 front.2) in
     let c = clean_right i.0 i.1 (subst Clean i.2 (clean_left j.0 j.1 (subst Clean j.2 clean))) in
     subst (λ (z : Expr). Best (suc n) ts z) k.2 (⊎_elim
-      (λ (h : Makes (Then (Then (One name) (One comma)) Names) cross i.1 x). names_best n ts i.1 x h c (omega (arith, more)))
-      (λ (h : Sum (Factor n) i.1 x). nest n i.1 ts x (sum_fit n (best n) i.1 x h c) more)
-      i.4)
+    (λ (h : Makes (Then (Then (One name) (One comma)) Names) cross i.1 x). names_best n ts i.1 x h c (omega (arith, more)))
+    (λ (h : Sum (Factor n) i.1 x). nest n i.1 ts x (sum_fit n (best n) i.1 x h c) more)
+    i.4)
 best (suc n) ts e (inr (inr h)) clean = atom_best (suc n) ts e h.0 h.2 (subst Clean h.1 clean).0
 
 formula_fit : (n : ℕ) (ts : List Token) (e : Expr) → Sum (Factor n) ts e → Clean ts → Fit n ts e
@@ -612,7 +611,7 @@ take_step p x xs true e h =
     let more : 1 + prefix_len p xs ≡ suc (prefix_len p xs) = omega arith in
     let inside : 1 + prefix_len p (take (prefix_len p xs) xs) ≡ suc (length (take (prefix_len p xs) xs)) = omega (arith, h) in
     subst (λ (k : ℕ). prefix_len p (take k (x ∷ xs)) ≡ length (take k (x ∷ xs))) (sym more)
-      (ap (λ (q : Bool). if q then 1 + prefix_len p (take (prefix_len p xs) xs) else 0) e ∙ inside)
+    (ap (λ (q : Bool). if q then 1 + prefix_len p (take (prefix_len p xs) xs) else 0) e ∙ inside)
 
 prefix_take : (p : ℕ → Bool) (xs : List ℕ) → prefix_len p (take (prefix_len p xs) xs) ≡ length (take (prefix_len p xs) xs)
 prefix_take p [] = refl
@@ -683,7 +682,7 @@ again text e s =
     let p = printed_text e fit.good in
     record {
       spelled = (p.1, subst (λ (z : List Token). Sum (Factor 64) z e) (sym p.0) fit.sum.spelled);
-      fewest = omega (arith, ap opens p.0, fit.sum.fewer)
+      fewest = omega (arith, ap opens p.0, fit.sum.fewer);
     }
 
 pub spelled_again : (bytes : List ℕ) (e : Expr) → bytes ≡ formula_text e → (text : List ℕ) → SpellsFormula text e → SpellsFormula bytes e

@@ -69,7 +69,6 @@ some_atom : (t : Token) × (a : Expr) × (atom t ≡ Some a)
 some_atom = (Name [], Cell ([] ∷ []), refl)
 
 module _ (F : Lang Expr) (r : List Token → Read Expr) (f : Law F never r) (some : (ts : List Token) × (e : Expr) × F ts e) where
-
   pub term_law : Law (Term F) term_goes (read_term r)
   unfolding read_term
   term_law = as_law (Chain product_mark F) term_goes (read_chain product_mark r) from_left
@@ -105,9 +104,9 @@ Cross = Makes (Then (Then (One name) (One comma)) Names) cross
 cross_law : Law Cross names_goes read_cross
 cross_law = as_law (Then (Then (One name) (One comma)) Names) names_goes (read_then (read_then (read_one name) (read_one comma)) read_names) cross
     (then_law (Then (One name) (One comma)) Names never names_goes (read_then (read_one name) (read_one comma)) read_names
-      (then_law (One name) (One comma) never never (read_one name) (read_one comma) (one_law name some_name) (one_law comma (Mark Comma, tt, refl))
-        (Mark Comma ∷ [], tt, (Mark Comma, refl, refl)) (λ ys b rest h halts. never_halts (ys ++ rest)))
-      names_law some_names (λ ys b rest h halts. never_halts (ys ++ rest)))
+    (then_law (One name) (One comma) never never (read_one name) (read_one comma) (one_law name some_name) (one_law comma (Mark Comma, tt, refl))
+    (Mark Comma ∷ [], tt, (Mark Comma, refl, refl)) (λ ys b rest h halts. never_halts (ys ++ rest)))
+    names_law some_names (λ ys b rest h halts. never_halts (ys ++ rest)))
 
 -- a name, and then a token that is no comma or another token altogether
 abbrev pub NoPair : List Token → Type 0
@@ -170,18 +169,18 @@ atom_full e h = let k = h.1 in let n : ⊥ = cc in n
 
 module _ (F : Lang Expr) (r : List Token → Read Expr) (f : Law F never r) (some : (ts : List Token) × (e : Expr) × F ts e)
     (single : Single F) (full : (e : Expr) → F [] e → ⊥) (first : (n : Token) (rest : List Token) → passes name n ≡ true → (e : Expr) × (r (n ∷ rest) ≡ Ok (e, rest))) where
-
   sum_first : (n m : Token) (rest : List Token) → passes name n ≡ true → passes comma m ≡ true → (e : Expr) × (read_sum r (n ∷ m ∷ rest) ≡ Ok (e, m ∷ rest))
   unfolding read_term read_sum
   sum_first n m rest a b =
       let x = first n (m ∷ rest) a in
       let no = comma_ends m b in
       let term : read_term r (n ∷ m ∷ rest) ≡ Ok (x.0, m ∷ rest) =
-          onward_start F never r f product_mark (λ t e. refl) (Mark Star, _, refl) some operated from_left (n ∷ m ∷ rest) (x.0, m ∷ rest) x.0 (λ ys. refl) x.1
-          ∙ onward_end F never r f product_mark (λ t e. refl) (Mark Star, _, refl) some operated x.0 (m ∷ rest) (ap (option_map (with_rest rest)) no.0) in
-      (x.0,
+      onward_start F never r f product_mark (λ t e. refl) (Mark Star, _, refl) some operated from_left (n ∷ m ∷ rest) (x.0, m ∷ rest) x.0 (λ ys. refl) x.1
+      ∙ onward_end F never r f product_mark (λ t e. refl) (Mark Star, _, refl) some operated x.0 (m ∷ rest) (ap (option_map (with_rest rest)) no.0) in (
+        x.0,
         onward_start (Term F) term_goes (read_term r) (term_law F r f some) sum_mark sum_apart (Mark Plus, _, refl) (some_term F r f some) operated from_left (n ∷ m ∷ rest) (x.0, m ∷ rest) x.0 (λ ys. refl) term
-        ∙ onward_end (Term F) term_goes (read_term r) (term_law F r f some) sum_mark sum_apart (Mark Plus, _, refl) (some_term F r f some) operated x.0 (m ∷ rest) (ap (option_map (with_rest rest)) no.1))
+            ∙ onward_end (Term F) term_goes (read_term r) (term_law F r f some) sum_mark sum_apart (Mark Plus, _, refl) (some_term F r f some) operated x.0 (m ∷ rest) (ap (option_map (with_rest rest)) no.1),
+      )
 
   pub inside_law : Law (Inside F) inside_goes (read_inside r)
   unfolding read_inside
@@ -197,6 +196,7 @@ module _ (F : Lang Expr) (r : List Token → Read Expr) (f : Law F never r) (som
       cross_less : (ts : List Token) → Halts inside_goes ts → Halts names_goes ts
       cross_less [] h = refl
       cross_less (t ∷ ts) h = ap (λ (b : Bool). b || false) (halts_first (passes comma) sum_goes (t ∷ ts) h)
+
       cross_begins : (ts : List Token) (e : Expr) (rest : List Token) → Cross ts e → begin (passes name) (passes comma) (ts ++ rest) ≡ true
       cross_begins ts e rest h =
           let k = h.1 in
@@ -212,10 +212,10 @@ module _ (F : Lang Expr) (r : List Token → Read Expr) (f : Law F never r) (som
   pub nested_law : Law (Nested F) never (read_nested r)
   nested_law = as_law (Then (Then (One open_mark) (Inside F)) (One close_mark)) never (read_then (read_then (read_one open_mark) (read_inside r)) (read_one close_mark)) inner
       (then_law (Then (One open_mark) (Inside F)) (One close_mark) inside_goes never (read_then (read_one open_mark) (read_inside r)) (read_one close_mark)
-        (then_law (One open_mark) (Inside F) never inside_goes (read_one open_mark) (read_inside r) (one_law open_mark (Mark Open, tt, refl)) inside_law
-          (some_sum.0, some_sum.1, inr some_sum.2) (λ ys b rest h halts. never_halts (ys ++ rest)))
-        (one_law close_mark (Mark Close, tt, refl)) (Mark Close ∷ [], tt, (Mark Close, refl, refl))
-        (λ ys b rest h halts. ap (λ z. begins inside_goes (z ++ rest)) h.1 ∙ close_apart h.0 (ap is_some h.2)))
+      (then_law (One open_mark) (Inside F) never inside_goes (read_one open_mark) (read_inside r) (one_law open_mark (Mark Open, tt, refl)) inside_law
+      (some_sum.0, some_sum.1, inr some_sum.2) (λ ys b rest h halts. never_halts (ys ++ rest)))
+      (one_law close_mark (Mark Close, tt, refl)) (Mark Close ∷ [], tt, (Mark Close, refl, refl))
+      (λ ys b rest h halts. ap (λ z. begins inside_goes (z ++ rest)) h.1 ∙ close_apart h.0 (ap is_some h.2)))
     where
       close_apart : (t : Token) → passes close_mark t ≡ true → inside_goes t ≡ false
       close_apart (Mark Close) e = refl
@@ -239,29 +239,29 @@ module _ (F : Lang Expr) (r : List Token → Read Expr) (f : Law F never r) (som
   pub next_law : Law Next never (read_if (passes minus) (read_negative r) (read_if (passes open_mark) (read_nested r) (read_one atom)))
   next_law = or_law (Negative F) (Or (Nested F) (One atom)) never (passes minus) (read_negative r) (read_if (passes open_mark) (read_nested r) (read_one atom)) negative_law
       (or_law (Nested F) (One atom) never (passes open_mark) (read_nested r) (read_one atom) nested_law (one_law atom some_atom) nested_heads
-        (λ ts e rest h halts. ap (λ z. begins (passes open_mark) (z ++ rest)) h.1 ∙ (atom_signs h.0 e h.2).1))
+      (λ ts e rest h halts. ap (λ z. begins (passes open_mark) (z ++ rest)) h.1 ∙ (atom_signs h.0 e h.2).1))
       negative_heads
       (λ ts e rest h halts. ⊎_elim
-        (λ (k : Nested F ts e). fails (passes open_mark) (passes minus) open_minus (ts ++ rest) (nested_heads ts e rest k))
-        (λ (k : One atom ts e). ap (λ z. begins (passes minus) (z ++ rest)) k.1 ∙ (atom_signs k.0 e k.2).0)
-        h)
+      (λ (k : Nested F ts e). fails (passes open_mark) (passes minus) open_minus (ts ++ rest) (nested_heads ts e rest k))
+      (λ (k : One atom ts e). ap (λ z. begins (passes minus) (z ++ rest)) k.1 ∙ (atom_signs k.0 e k.2).0)
+      h)
 
   pub next_single : Single Next
   next_single ts e zs h halts = ⊎_elim
       (λ (k : Negative F ts e). no_first (ts ++ zs) (fails (passes minus) (passes name) minus_name (ts ++ zs) (negative_heads ts e zs k)))
       (λ (k : Or (Nested F) (One atom) ts e). ⊎_elim
-        (λ (j : Nested F ts e). no_first (ts ++ zs) (fails (passes open_mark) (passes name) open_name (ts ++ zs) (nested_heads ts e zs j)))
-        (λ (j : One atom ts e). atom_single ts e zs j halts)
-        k)
+      (λ (j : Nested F ts e). no_first (ts ++ zs) (fails (passes open_mark) (passes name) open_name (ts ++ zs) (nested_heads ts e zs j)))
+      (λ (j : One atom ts e). atom_single ts e zs j halts)
+      k)
       h
 
   pub next_full : (e : Expr) → Next [] e → ⊥
   next_full e h = ⊎_elim
       (λ (k : Negative F [] e). let b : false ≡ true = negative_heads [] e [] k in let n : ⊥ = cc in n)
       (λ (k : Or (Nested F) (One atom) [] e). ⊎_elim
-        (λ (j : Nested F [] e). let b : false ≡ true = nested_heads [] e [] j in let n : ⊥ = cc in n)
-        (λ (j : One atom [] e). atom_full e j)
-        k)
+      (λ (j : Nested F [] e). let b : false ≡ true = nested_heads [] e [] j in let n : ⊥ = cc in n)
+      (λ (j : One atom [] e). atom_full e j)
+      k)
       h
 
 -- ---- factors of every depth
@@ -289,7 +289,7 @@ deep (suc n) =
     record {
       law = next_law (Factor n) (read_factor n) d.law (some_factor n) d.single d.full (factor_first n);
       single = next_single (Factor n) (read_factor n) d.law (some_factor n) d.single d.full (factor_first n);
-      full = next_full (Factor n) (read_factor n) d.law (some_factor n) d.single d.full (factor_first n)
+      full = next_full (Factor n) (read_factor n) d.law (some_factor n) d.single d.full (factor_first n);
     }
 
 pub formula_law : Law Formula sum_goes (read_sum (read_factor 64))

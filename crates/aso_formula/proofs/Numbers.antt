@@ -68,10 +68,10 @@ writes_more n ds some w =
       digits = all_joined ds (d ∷ []) w.digits (all_more d [] (digit_is (n % 10) small) refl);
       some = omega (arith, length-append ds (d ∷ []));
       value =
-        ap (number_from_digits_after 10 0) (map-append (λ (x : ℕ). x - 48) ds (d ∷ []))
-        ∙ number_after_append 10 0 (values ds) (values (d ∷ []))
-        ∙ ap (λ (v : ℕ). number_from_digits_after 10 v (values (d ∷ []))) w.value
-        ∙ last
+          ap (number_from_digits_after 10 0) (map-append (λ (x : ℕ). x - 48) ds (d ∷ []))
+          ∙ number_after_append 10 0 (values ds) (values (d ∷ []))
+          ∙ ap (λ (v : ℕ). number_from_digits_after 10 v (values (d ∷ []))) w.value
+          ∙ last;
     }
 
 whole_writes : (n : ℕ) → n < 2 ^ 64 → Writes n (decimal n)
@@ -103,28 +103,35 @@ fraction w r less = none (r == 0) refl
   where
     first : is_digit (48 + r / 1000) ≡ true
     first = digit_is (r / 1000) (omega (arith, less))
+
     second : is_digit (48 + r / 100 % 10) ≡ true
     second = digit_is (r / 100 % 10) (omega arith)
+
     third : is_digit (48 + r / 10 % 10) ≡ true
     third = digit_is (r / 10 % 10) (omega arith)
+
     fourth : is_digit (48 + r % 10) ≡ true
     fourth = digit_is (r % 10) (omega arith)
+
     last : (q : Bool) → (r % 10 == 0) ≡ q → Fraction w r (if q then 46 ∷ ((48 + r / 1000) ∷ (48 + r / 100 % 10) ∷ (48 + r / 10 % 10) ∷ []) else 46 ∷ ((48 + r / 1000) ∷ (48 + r / 100 % 10) ∷ (48 + r / 10 % 10) ∷ (48 + r % 10) ∷ []))
     last true e =
         let zeros : r % 10 ≡ 0 = eqb-true (r % 10) 0 e in
         record { digits = ((48 + r / 1000) ∷ (48 + r / 100 % 10) ∷ (48 + r / 10 % 10) ∷ []); all = all_three (48 + r / 1000) (48 + r / 100 % 10) (48 + r / 10 % 10) first second third; short = omega arith; value = omega (arith, zeros, less); point = inr (refl, omega arith) }
     last false e =
         record { digits = ((48 + r / 1000) ∷ (48 + r / 100 % 10) ∷ (48 + r / 10 % 10) ∷ (48 + r % 10) ∷ []); all = all_four (48 + r / 1000) (48 + r / 100 % 10) (48 + r / 10 % 10) (48 + r % 10) first second third fourth; short = omega arith; value = omega (arith, less); point = inr (refl, omega arith) }
+
     hundreds : (q : Bool) → (r % 100 == 0) ≡ q → Fraction w r (if q then 46 ∷ ((48 + r / 1000) ∷ (48 + r / 100 % 10) ∷ []) else (if r % 10 == 0 then 46 ∷ ((48 + r / 1000) ∷ (48 + r / 100 % 10) ∷ (48 + r / 10 % 10) ∷ []) else 46 ∷ ((48 + r / 1000) ∷ (48 + r / 100 % 10) ∷ (48 + r / 10 % 10) ∷ (48 + r % 10) ∷ [])))
     hundreds true e =
         let zeros : r % 100 ≡ 0 = eqb-true (r % 100) 0 e in
         record { digits = ((48 + r / 1000) ∷ (48 + r / 100 % 10) ∷ []); all = all_two (48 + r / 1000) (48 + r / 100 % 10) first second; short = omega arith; value = omega (arith, zeros, less); point = inr (refl, omega arith) }
     hundreds false e = last (r % 10 == 0) refl
+
     thousands : (q : Bool) → (r % 1000 == 0) ≡ q → Fraction w r (if q then 46 ∷ ((48 + r / 1000) ∷ []) else (if r % 100 == 0 then 46 ∷ ((48 + r / 1000) ∷ (48 + r / 100 % 10) ∷ []) else (if r % 10 == 0 then 46 ∷ ((48 + r / 1000) ∷ (48 + r / 100 % 10) ∷ (48 + r / 10 % 10) ∷ []) else 46 ∷ ((48 + r / 1000) ∷ (48 + r / 100 % 10) ∷ (48 + r / 10 % 10) ∷ (48 + r % 10) ∷ []))))
     thousands true e =
         let zeros : r % 1000 ≡ 0 = eqb-true (r % 1000) 0 e in
         record { digits = ((48 + r / 1000) ∷ []); all = all_one (48 + r / 1000) first; short = omega arith; value = omega (arith, zeros, less); point = inr (refl, omega arith) }
     thousands false e = hundreds (r % 100 == 0) refl
+
     none : (q : Bool) → (r == 0) ≡ q → Fraction w r (if q then [] else (if r % 1000 == 0 then 46 ∷ ((48 + r / 1000) ∷ []) else (if r % 100 == 0 then 46 ∷ ((48 + r / 1000) ∷ (48 + r / 100 % 10) ∷ []) else (if r % 10 == 0 then 46 ∷ ((48 + r / 1000) ∷ (48 + r / 100 % 10) ∷ (48 + r / 10 % 10) ∷ []) else 46 ∷ ((48 + r / 1000) ∷ (48 + r / 100 % 10) ∷ (48 + r / 10 % 10) ∷ (48 + r % 10) ∷ [])))))
     none true e =
         let zeros : r ≡ 0 = eqb-true r 0 e in
@@ -151,15 +158,15 @@ exact whole digits = record { negative = false; whole = whole; decimals = digits
 parts_are : (w r : ℕ) (whole text : List ℕ) (f : Fraction w r text) → parts_with whole text ≡ exact whole f.digits
 parts_are w r whole text f = ⊎_elim
     (λ (no : (text ≡ []) × (f.digits ≡ [])).
-      ap (parts_with whole) no.0 ∙ ap (exact whole) (sym no.1))
+    ap (parts_with whole) no.0 ∙ ap (exact whole) (sym no.1))
     (λ (yes : (text ≡ 46 ∷ f.digits) × (1 ≤ length f.digits)).
-      let fs = f.digits in
-      let all : take (digits_len fs) fs ≡ fs = ap (λ (k : ℕ). take k fs) f.all ∙ take-length fs in
-      let size : 1 + length fs ≡ length (46 ∷ fs) = omega arith in
-      let none : drop (1 + length fs) (46 ∷ fs) ≡ [] = ap (λ (k : ℕ). drop k (46 ∷ fs)) size ∙ drop-length (46 ∷ fs) in
-      ap (parts_with whole) yes.0
-      ∙ ap (λ (z : List ℕ). let p : Parts = record { negative = false; whole = whole; decimals = z; rest = drop (1 + length z) (46 ∷ fs) } in p) all
-      ∙ ap (λ (z : List ℕ). let p : Parts = record { negative = false; whole = whole; decimals = fs; rest = z } in p) none)
+    let fs = f.digits in
+    let all : take (digits_len fs) fs ≡ fs = ap (λ (k : ℕ). take k fs) f.all ∙ take-length fs in
+    let size : 1 + length fs ≡ length (46 ∷ fs) = omega arith in
+    let none : drop (1 + length fs) (46 ∷ fs) ≡ [] = ap (λ (k : ℕ). drop k (46 ∷ fs)) size ∙ drop-length (46 ∷ fs) in
+    ap (parts_with whole) yes.0
+    ∙ ap (λ (z : List ℕ). let p : Parts = record { negative = false; whole = whole; decimals = z; rest = drop (1 + length z) (46 ∷ fs) } in p) all
+    ∙ ap (λ (z : List ℕ). let p : Parts = record { negative = false; whole = whole; decimals = fs; rest = z } in p) none)
     f.point
 
 unsigned_parts : (d : ℕ) (ds : List ℕ) → is_digit d ≡ true → parts_of (d ∷ ds) ≡ whole_and_rest false (d ∷ ds) (digits_len (d ∷ ds))
@@ -222,10 +229,10 @@ units_number a less =
     let fits : length (whole ++ text) ≤ digits_len (whole ++ text) + 5 = omega (arith, length-append whole text, n, len.1) in
     let four : take 4 f.digits ≡ f.digits = take_all 4 f.digits f.short in
     let value : units_text_value whole f.digits ≡ a =
-        ap (λ (z : List ℕ). number (whole ++ z) * 10 ^ (4 - length z)) four
-        ∙ ap (λ (k : ℕ). k * 10 ^ (4 - length f.digits)) (ap (number_from_digits_after 10 0) (map-append (λ (y : ℕ). y - 48) whole f.digits) ∙ number_after_append 10 0 (values whole) (values f.digits) ∙ ap (λ (v : ℕ). number_from_digits_after 10 v (values f.digits)) x.value)
-        ∙ f.value
-        ∙ (let same : w * 10000 + r ≡ a = omega arith in same) in
+    ap (λ (z : List ℕ). number (whole ++ z) * 10 ^ (4 - length z)) four
+    ∙ ap (λ (k : ℕ). k * 10 ^ (4 - length f.digits)) (ap (number_from_digits_after 10 0) (map-append (λ (y : ℕ). y - 48) whole f.digits) ∙ number_after_append 10 0 (values whole) (values f.digits) ∙ ap (λ (v : ℕ). number_from_digits_after 10 v (values f.digits)) x.value)
+    ∙ f.value
+    ∙ (let same : w * 10000 + r ≡ a = omega arith in same) in
     if_true (nat_le (length (whole ++ text)) (digits_len (whole ++ text) + 5)) (result_ok (amount_of (whole ++ text))) None (le-leb (length (whole ++ text)) (digits_len (whole ++ text) + 5) fits)
     ∙ ap (λ (p : Parts). result_ok (judged (length (whole ++ text)) p)) (text_parts w r whole text f x.digits x.some)
     ∙ ap (λ (z : Result ℤ NumberFault). result_ok z) (judged_exact (length (whole ++ text)) whole f.digits a x.some f.short value less)
@@ -235,11 +242,16 @@ numeral_of w r [] text f e some = absurd (let h : ⊥ = omega (arith, some) in h
 numeral_of w r (d ∷ ds) text f e some =
     let k = passed (is_digit d) (digits_len ds) (length ds) e in
     record {
-      first = d; whole = ds; decimals = text; is = refl; digit = k.0; digits = k.1;
+      first = d;
+      whole = ds;
+      decimals = text;
+      is = refl;
+      digit = k.0;
+      digits = k.1;
       point = ⊎_elim
-        (λ (no : (text ≡ []) × (f.digits ≡ [])). inl no.0)
-        (λ (yes : (text ≡ 46 ∷ f.digits) × (1 ≤ length f.digits)). inr (f.digits, yes.0, yes.1, f.all))
-        f.point
+          (λ (no : (text ≡ []) × (f.digits ≡ [])). inl no.0)
+          (λ (yes : (text ≡ 46 ∷ f.digits) × (1 ≤ length f.digits)). inr (f.digits, yes.0, yes.1, f.all))
+          f.point;
     }
 
 pub units_numeral : (a : ℕ) → a < 10 ^ 18 → Numeral (units_text a)

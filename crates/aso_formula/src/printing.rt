@@ -3,9 +3,9 @@ ghost use Rattle.std.specs.String.{string_bytes};
 ghost use Rattle.aso_formula.specs.Printing.{mark_of, level_of, op_text, bracketed as bracketed_text, cell_text, decimals_text, units_text, number_text, only_if, shown, formula_text, parens_of};
 ghost use Rattle.aso_formula.specs.Formula.{SpellsFormula};
 
-use aso_outline::{Expr, Op};
 use aso_memory::NoMemory;
 use aso_num::Text;
+use aso_outline::{Expr, Op};
 use std::alloc::{AllocError, Global};
 use std::fmt::Write;
 

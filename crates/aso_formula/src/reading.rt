@@ -6,8 +6,8 @@ ghost use Rattle.aso_outline.specs.declared.draft.Expr.{Expr};
 ghost use Rattle.aso_formula.specs.Formula.{atom as atom_of};
 ghost use Rattle.aso_formula.specs.Reading.{read_term, read_sum, read_behind, read_rest, read_negated, read_closed, pair_front, read_inside, read_factor};
 
-use aso_outline::{Expr, Op};
 use aso_num::{List, Text};
+use aso_outline::{Expr, Op};
 use aso_token::{Mark, Piece, Placed, Stop, Token, after_comma, after_open, close, parse_number};
 use sqlite_items::Boxed;
 use std::alloc::{AllocError, Global};
@@ -32,7 +32,6 @@ fn sum_op(token: &Token<'_>) -> Option<Op>
     }
 }
 
-
 fn copied(alloc: Global, piece: &Piece<'_>) -> Result<Text, AllocError>
     ensures { IfOk result (λ t. t ≡ piece.now) }
 {
@@ -40,7 +39,10 @@ fn copied(alloc: Global, piece: &Piece<'_>) -> Result<Text, AllocError>
 }
 
 // A number or a member.
-fn atom<'s, 'a>(alloc: Global, tokens: &'s [Placed<'a>]) -> Result<(Expr, &'s [Placed<'a>]), Stop<'s, 'a>>
+fn atom<'s, 'a>(
+    alloc: Global,
+    tokens: &'s [Placed<'a>],
+) -> Result<(Expr, &'s [Placed<'a>]), Stop<'s, 'a>>
     ensures { Gives (λ x. (x.0, tokens_of x.1.now)) result (read_one atom_of (tokens_of tokens.now)) }
 {
     let [first, rest @ ..] = tokens else {
@@ -84,7 +86,10 @@ fn sum_front<'s, 'a>(tokens: &'s [Placed<'a>]) -> Option<(Op, &'s [Placed<'a>])>
     }
 }
 
-fn bracketed<'s, 'a>(alloc: Global, tokens: &'s [Placed<'a>]) -> Result<(Text, &'s [Placed<'a>]), Stop<'s, 'a>>
+fn bracketed<'s, 'a>(
+    alloc: Global,
+    tokens: &'s [Placed<'a>],
+) -> Result<(Text, &'s [Placed<'a>]), Stop<'s, 'a>>
     ensures { Gives (λ x. (x.0, tokens_of x.1.now)) result (read_one name (tokens_of tokens.now)) }
 {
     let [first, rest @ ..] = tokens else {
@@ -107,7 +112,11 @@ fn binary(alloc: Global, op: Op, left: Expr, right: Expr) -> Result<Expr, AllocE
 }
 
 // Members with commas between them, behind those that stand already.
-fn names<'s, 'a>(alloc: Global, first: Text, tokens: &'s [Placed<'a>]) -> Result<(List<Text>, &'s [Placed<'a>]), Stop<'s, 'a>>
+fn names<'s, 'a>(
+    alloc: Global,
+    first: Text,
+    tokens: &'s [Placed<'a>],
+) -> Result<(List<Text>, &'s [Placed<'a>]), Stop<'s, 'a>>
     ensures { Gives (λ x. (x.0, tokens_of x.1.now)) result (read_behind first (tokens_of tokens.now)) }
 {
     let mut all = Vec::new(alloc);
@@ -124,7 +133,11 @@ fn names<'s, 'a>(alloc: Global, first: Text, tokens: &'s [Placed<'a>]) -> Result
 
 // Factors with * and / between them.
 #[cycle(formula)]
-fn term<'s, 'a>(alloc: Global, nested: usize, tokens: &'s [Placed<'a>]) -> Result<(Expr, &'s [Placed<'a>]), Stop<'s, 'a>>
+fn term<'s, 'a>(
+    alloc: Global,
+    nested: usize,
+    tokens: &'s [Placed<'a>],
+) -> Result<(Expr, &'s [Placed<'a>]), Stop<'s, 'a>>
     ensures { Gives (λ x. (x.0, tokens_of x.1.now)) result (read_term (read_factor nested) (tokens_of tokens.now)) }
 {
     let (mut left, mut rest) = factor(alloc, nested, tokens)?;
@@ -138,7 +151,11 @@ fn term<'s, 'a>(alloc: Global, nested: usize, tokens: &'s [Placed<'a>]) -> Resul
 
 // Terms with + and - between them.
 #[cycle(formula)]
-fn sum<'s, 'a>(alloc: Global, nested: usize, tokens: &'s [Placed<'a>]) -> Result<(Expr, &'s [Placed<'a>]), Stop<'s, 'a>>
+fn sum<'s, 'a>(
+    alloc: Global,
+    nested: usize,
+    tokens: &'s [Placed<'a>],
+) -> Result<(Expr, &'s [Placed<'a>]), Stop<'s, 'a>>
     ensures { Gives (λ x. (x.0, tokens_of x.1.now)) result (read_sum (read_factor nested) (tokens_of tokens.now)) }
 {
     let (mut left, mut rest) = term(alloc, nested, tokens)?;
@@ -154,7 +171,13 @@ fn take_minus<'s, 'a>(tokens: &'s [Placed<'a>]) -> Option<&'s [Placed<'a>]>
     ensures { option_map (λ x. (tt, tokens_of x.now)) result ≡ front_of minus (tokens_of tokens.now) }
 {
     match tokens {
-        [Placed { token: Token::Mark(Mark::Minus), .. }, rest @ ..] => Some(rest),
+        [
+            Placed {
+                token: Token::Mark(Mark::Minus),
+                ..
+            },
+            rest @ ..,
+        ] => Some(rest),
         _ => None,
     }
 }
@@ -172,7 +195,11 @@ fn take_pair<'s, 'a>(tokens: &'s [Placed<'a>]) -> Option<(&'s Piece<'a>, &'s [Pl
     }
 }
 
-fn cross<'s, 'a>(alloc: Global, first: &Piece<'_>, tokens: &'s [Placed<'a>]) -> Result<(Expr, &'s [Placed<'a>]), Stop<'s, 'a>>
+fn cross<'s, 'a>(
+    alloc: Global,
+    first: &Piece<'_>,
+    tokens: &'s [Placed<'a>],
+) -> Result<(Expr, &'s [Placed<'a>]), Stop<'s, 'a>>
     ensures { Gives (λ x. (x.0, tokens_of x.1.now)) result (read_rest first.now (tokens_of tokens.now)) }
 {
     let (all, rest) = names(alloc, copied(alloc, first)?, tokens)?;
@@ -181,7 +208,11 @@ fn cross<'s, 'a>(alloc: Global, first: &Piece<'_>, tokens: &'s [Placed<'a>]) -> 
 
 // Two members or more, or a formula.
 #[cycle(formula)]
-fn inside<'s, 'a>(alloc: Global, nested: usize, tokens: &'s [Placed<'a>]) -> Result<(Expr, &'s [Placed<'a>]), Stop<'s, 'a>>
+fn inside<'s, 'a>(
+    alloc: Global,
+    nested: usize,
+    tokens: &'s [Placed<'a>],
+) -> Result<(Expr, &'s [Placed<'a>]), Stop<'s, 'a>>
     ensures { Gives (λ x. (x.0, tokens_of x.1.now)) result (read_inside (read_factor nested) (tokens_of tokens.now)) }
 {
     match take_pair(tokens) {
@@ -191,7 +222,11 @@ fn inside<'s, 'a>(alloc: Global, nested: usize, tokens: &'s [Placed<'a>]) -> Res
 }
 
 #[cycle(formula)]
-fn negated<'s, 'a>(alloc: Global, nested: usize, tokens: &'s [Placed<'a>]) -> Result<(Expr, &'s [Placed<'a>]), Stop<'s, 'a>>
+fn negated<'s, 'a>(
+    alloc: Global,
+    nested: usize,
+    tokens: &'s [Placed<'a>],
+) -> Result<(Expr, &'s [Placed<'a>]), Stop<'s, 'a>>
     ensures { Gives (λ x. (x.0, tokens_of x.1.now)) result (read_negated (read_factor nested) (tokens_of tokens.now)) }
 {
     let (inner, rest) = factor(alloc, nested, tokens)?;
@@ -199,7 +234,11 @@ fn negated<'s, 'a>(alloc: Global, nested: usize, tokens: &'s [Placed<'a>]) -> Re
 }
 
 #[cycle(formula)]
-fn closed<'s, 'a>(alloc: Global, nested: usize, tokens: &'s [Placed<'a>]) -> Result<(Expr, &'s [Placed<'a>]), Stop<'s, 'a>>
+fn closed<'s, 'a>(
+    alloc: Global,
+    nested: usize,
+    tokens: &'s [Placed<'a>],
+) -> Result<(Expr, &'s [Placed<'a>]), Stop<'s, 'a>>
     ensures { Gives (λ x. (x.0, tokens_of x.1.now)) result (read_closed (read_factor nested) (tokens_of tokens.now)) }
 {
     let (inner, rest) = inside(alloc, nested, tokens)?;
@@ -209,7 +248,11 @@ fn closed<'s, 'a>(alloc: Global, nested: usize, tokens: &'s [Placed<'a>]) -> Res
 
 // A factor in which at most so many signs and parentheses nest.
 #[cycle(formula)]
-fn factor<'s, 'a>(alloc: Global, nested: usize, tokens: &'s [Placed<'a>]) -> Result<(Expr, &'s [Placed<'a>]), Stop<'s, 'a>>
+fn factor<'s, 'a>(
+    alloc: Global,
+    nested: usize,
+    tokens: &'s [Placed<'a>],
+) -> Result<(Expr, &'s [Placed<'a>]), Stop<'s, 'a>>
     ensures { Gives (λ x. (x.0, tokens_of x.1.now)) result (read_factor nested (tokens_of tokens.now)) }
 {
     if nested == 0 {
@@ -235,7 +278,10 @@ fn whole<'s, 'a>(alloc: Global, tokens: &'s [Placed<'a>]) -> Result<Expr, Stop<'
 }
 
 /// The formula that the tokens spell, or the tokens from the fault on.
-pub(crate) fn parse_tokens<'s, 'a>(alloc: Global, tokens: &'s [Placed<'a>]) -> Result<Expr, Stop<'s, 'a>>
+pub(crate) fn parse_tokens<'s, 'a>(
+    alloc: Global,
+    tokens: &'s [Placed<'a>],
+) -> Result<Expr, Stop<'s, 'a>>
     ensures found { IfOk result (λ e. Formula (tokens_of tokens.now) e) }
     ensures only { (e : Expr) → Formula (tokens_of tokens.now) e → Answers result (Ok e) }
     ensures fault { IfErr result (FaultIn Formula (tokens_of tokens.now)) }

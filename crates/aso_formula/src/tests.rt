@@ -61,7 +61,13 @@ fn printed(alloc: Global, text: &str) -> Result<String, NoMemory> {
 }
 
 // Text before, text within and text behind, the outer two this often.
-fn nested(alloc: Global, open: &str, within: &str, close: &str, times: usize) -> Result<String, NoMemory> {
+fn nested(
+    alloc: Global,
+    open: &str,
+    within: &str,
+    close: &str,
+    times: usize,
+) -> Result<String, NoMemory> {
     let mut text = String::new(alloc);
     for _ in 0..times {
         text.push_str(open)?;
@@ -76,15 +82,27 @@ fn nested(alloc: Global, open: &str, within: &str, close: &str, times: usize) ->
 #[test]
 fn trees(rt: HostRuntime) -> Result<(), Fail> {
     let cases = [
-        ("[Sales] - [Cost]", "sub([Sales],[Cost])", "[Sales] - [Cost]"),
+        (
+            "[Sales] - [Cost]",
+            "sub([Sales],[Cost])",
+            "[Sales] - [Cost]",
+        ),
         (
             "([Sales] - [Cost]) / [Sales] * 100",
             "mul(div(sub([Sales],[Cost]),[Sales]),1000000)",
             "([Sales] - [Cost]) / [Sales] * 100",
         ),
         ("[a]-[b]-[c]", "sub(sub([a],[b]),[c])", "[a] - [b] - [c]"),
-        ("[a] - ([b] - [c])", "sub([a],sub([b],[c]))", "[a] - ([b] - [c])"),
-        ("[a] / ([b] * [c])", "div([a],mul([b],[c]))", "[a] / ([b] * [c])"),
+        (
+            "[a] - ([b] - [c])",
+            "sub([a],sub([b],[c]))",
+            "[a] - ([b] - [c])",
+        ),
+        (
+            "[a] / ([b] * [c])",
+            "div([a],mul([b],[c]))",
+            "[a] / ([b] * [c])",
+        ),
         (
             "(([a])) + ([b] / [c])",
             "add([a],div([b],[c]))",
@@ -98,11 +116,19 @@ fn trees(rt: HostRuntime) -> Result<(), Fail> {
         ("-[a] * --2", "mul(neg([a]),neg(neg(20000)))", "-[a] * --2"),
         ("-( [a] + 1.50 )", "neg(add([a],15000))", "-([a] + 1.5)"),
         ("- (-[a])", "neg(neg([a]))", "--[a]"),
-        ("([Jan],[ NY ],[x y])", "[Jan][ NY ][x y]", "([Jan], [ NY ], [x y])"),
+        (
+            "([Jan],[ NY ],[x y])",
+            "[Jan][ NY ][x y]",
+            "([Jan], [ NY ], [x y])",
+        ),
         ("(([a],[b]))*2", "mul([a][b],20000)", "([a], [b]) * 2"),
         ("0.0001", "1", "0.0001"),
         ("007.1000", "71000", "7.1"),
-        ("99999999999999.9999", "999999999999999999", "99999999999999.9999"),
+        (
+            "99999999999999.9999",
+            "999999999999999999",
+            "99999999999999.9999",
+        ),
         ("\t[a]\r\n+[b] ", "add([a],[b])", "[a] + [b]"),
         ("[]", "[]", "[]"),
         ("[a [b]", "[a [b]", "[a [b]"),

@@ -1,12 +1,10 @@
 -- The members by number, each with what its rank needs.
-use Rattle.std.specs.Prelude.{◌≡◌, ℕ, Bool, true, false, List, Option, Some, map, nat_lt, length, slice_get, unwrap_or}
+use Rattle.std.specs.Prelude.{◌≡◌, ℕ, Bool, false, List, Option, Some, map, slice_get, unwrap_or}
 use Rattle.aso_tree.specs.Trees.{places_of}
 use Rattle.aso_outline.specs.declared.draft.Draft.{Draft}
 use Rattle.aso_outline.specs.declared.row.Row.{Row}
 use Rattle.aso_outline.specs.declared.row.Standing.{Standing}
-use Rattle.aso_outline.specs.declared.seat.Seat.{Seat}
-use Rattle.aso_outline.specs.declared.seat.Seat.TheVariants.{Whole}
-use Rattle.aso_outline.specs.Members.{place_of, seats, tree_of}
+use Rattle.aso_outline.specs.Members.{seats}
 use Rattle.aso_outline.specs.Ranks.{needs, standing_of}
 
 abbrev pub row_at : Draft → ℕ → Standing × List ℕ
@@ -25,8 +23,3 @@ rank_in ranks k = unwrap_or (slice_get ranks k) (Some 0)
 -- whether a member reaches a goal, in a table for one goal
 abbrev pub reach_in : List Bool → ℕ → Bool
 reach_in reach k = unwrap_or (slice_get reach k) false
-
--- a member of a tree stands within it
-abbrev pub is_placed : Draft → Seat → Bool
-is_placed o (Whole d) = true
-is_placed o s = nat_lt (place_of s) (length (tree_of o s))

@@ -47,7 +47,12 @@ fn bin(alloc: Global, op: Op, left: Expr, right: Expr) -> Result<Expr, NoMemory>
 }
 
 fn margin(alloc: Global) -> Result<Expr, NoMemory> {
-    bin(alloc, Op::Minus, cell(alloc, "Sales")?, cell(alloc, "Cost")?)
+    bin(
+        alloc,
+        Op::Minus,
+        cell(alloc, "Sales")?,
+        cell(alloc, "Cost")?,
+    )
 }
 
 fn percent(alloc: Global) -> Result<Expr, NoMemory> {
@@ -241,7 +246,11 @@ fn members_by_number(rt: HostRuntime) -> Result<(), Fail> {
             assert_eq!(rt; outline.height(m), height, "at {m}");
             assert_eq!(rt; outline.leaf_of(m), leaf, "at {m}");
             assert_eq!(rt; outline.resolve(m), resolved, "at {m}");
-            assert_eq!(rt; outline.is_stored(m), m != 12 && m != 18 && m != 19, "at {m}");
+            assert_eq!(rt;
+                outline.is_stored(m),
+                m != 12 && m != 18 && m != 19,
+                "at {m}"
+            );
         }
     }
     Ok(())

@@ -2,9 +2,10 @@
 ghost use Rattle.std.specs.Prelude.{◌≡◌, ◌<◌, ◌≤◌, ◌^◌, ◌++◌, ◌∷◌, [], ℕ, true, length, map, slice_get, IfOk, OnOk, if◌then◌else◌};
 ghost use Rattle.std.specs.List.{cons_option, filter, filter_map};
 ghost use Rattle.aso_outline.specs.Atoms.{atoms};
-ghost use Rattle.aso_outline.specs.Graph.{AreRows, is_placed, row_at, row_of};
+ghost use Rattle.aso_outline.specs.Graph.{AreRows, row_at, row_of};
 ghost use Rattle.aso_outline.specs.Members.{is_computed, place_of, seats, tree_of};
 ghost use Rattle.aso_outline.specs.Named.{Finds};
+ghost use Rattle.aso_outline.specs.Numbers.{IsSeat};
 ghost use Rattle.aso_outline.specs.Ranks.{at_number, children, is_child_place, is_label, is_of_dim, needs_at, number_in, operands_in, own_operands, standing_at};
 ghost use Rattle.aso_outline.specs.Small.{HasTrees};
 
@@ -173,7 +174,7 @@ fn push_needs(
     requires is { table.now ≡ seats draft.now }
     requires finds { Finds draft.now names.now }
     requires trees { HasTrees draft.now }
-    requires placed { is_placed draft.now seat ≡ true }
+    requires placed { IsSeat draft.now seat }
     ensures { OnOk result (needs.new.items ≡ needs.old.items ++ needs_at draft.now number seat) }
 {
     if is_label(draft, seat) {
@@ -214,7 +215,7 @@ fn needs_of(
     requires is { table.now ≡ seats draft.now }
     requires finds { Finds draft.now names.now }
     requires trees { HasTrees draft.now }
-    requires placed { is_placed draft.now seat ≡ true }
+    requires placed { IsSeat draft.now seat }
     ensures { IfOk result (λ v. v.items ≡ (if is_computed draft.now seat then needs_at draft.now number seat else [])) }
 {
     let mut needs = Vec::new(alloc);

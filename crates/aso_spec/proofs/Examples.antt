@@ -8,7 +8,6 @@ use Rattle.aso_outline.specs.declared.draft.DraftHier.{DraftHier}
 use Rattle.aso_outline.specs.Members.{seats, find, leaf_names, holds, parents_of}
 use Rattle.aso_outline.specs.Ranks.{named, rank, needs_itself}
 use Rattle.aso_outline.specs.Rules.{broken, has_counts, is_name, is_atom, key_bits}
-use Rattle.aso_outline.specs.Rules as outline
 use Rattle.aso_spec.specs.Cells.{summed, stored}
 use Rattle.aso_spec.specs.Named.{ordinals_named, names_a_cell, key_named, is_axis}
 use Rattle.aso_spec.specs.Grid.{grid_text, grid_head, end_line}
@@ -35,11 +34,11 @@ unfolding sheet_text sheet_lines
 row_text = refl
 
 row_keeps_the_rules : broken (draft_of row.members) ≡ None
-unfolding broken outline.is_plain draft_of has_counts is_name is_atom key_bits seats rank needs_itself named leaf_names
+unfolding broken draft_of has_counts is_name is_atom key_bits seats rank needs_itself named leaf_names
 row_keeps_the_rules = refl
 
 row_is_plain : is_plain row ≡ true
-unfolding is_plain broken outline.is_plain draft_of has_counts is_name is_atom key_bits seats rank needs_itself named leaf_names names_a_cell ordinals_named is_axis
+unfolding is_plain broken draft_of has_counts is_name is_atom key_bits seats rank needs_itself named leaf_names names_a_cell ordinals_named is_axis
 row_is_plain = refl
 
 row_cells : cells_of row ≡ ((0 ∷ 0 ∷ [], pos 105000) ∷ (0 ∷ 1 ∷ [], pos 20000) ∷ (1 ∷ 0 ∷ [], negsuc 2499) ∷ [])

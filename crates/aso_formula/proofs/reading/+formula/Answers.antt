@@ -26,14 +26,14 @@ term-loop-op-preserved t c =
     let n = c.args.nested in
     c.loop-op.invariant
     ∙ onward_front (Factor n) never (read_factor n) (deep n).law product_mark (λ t e. refl) (Mark Star, _, refl) (some_factor n) operated
-      c.loop-op.left (tokens_of c.loop-op.rest.now) (tokens_of c.in-Some.after.now) c.in-Some.op (c.in_ok-right.right, tokens_of c.in_ok-right.next.now) c.in-Some.ensures c.in_ok-right.ensures
+    c.loop-op.left (tokens_of c.loop-op.rest.now) (tokens_of c.in-Some.after.now) c.in-Some.op (c.in_ok-right.right, tokens_of c.in_ok-right.next.now) c.in-Some.ensures c.in_ok-right.ensures
     ∙ ap (λ e. onward operated product_mark (read_factor n) e (tokens_of c.in_ok-right.next.now)) (sym c.in_ok-left-2.ensures)
 
 pub term-loop-op-smaller : goal.term-loop-op-smaller
 term-loop-op-smaller t c =
     let n = c.args.nested in
     let less = front_less (Factor n) never (read_factor n) (deep n).law product_mark (λ t e. refl) (Mark Star, _, refl) (some_factor n) operated
-      (tokens_of c.loop-op.rest.now) (tokens_of c.in-Some.after.now) c.in-Some.op (c.in_ok-right.right, tokens_of c.in_ok-right.next.now) c.in-Some.ensures c.in_ok-right.ensures in
+    (tokens_of c.loop-op.rest.now) (tokens_of c.in-Some.after.now) c.in-Some.op (c.in_ok-right.right, tokens_of c.in_ok-right.next.now) c.in-Some.ensures c.in_ok-right.ensures in
     omega (arith, less, length-map c.loop-op.rest.now (λ p. p.token), length-map c.in_ok-right.next.now (λ p. p.token))
 
 pub sum-loop-op-init : goal.sum-loop-op-init
@@ -48,14 +48,14 @@ sum-loop-op-preserved t c =
     let n = c.args.nested in
     c.loop-op.invariant
     ∙ onward_front (Term (Factor n)) term_goes (read_term (read_factor n)) (term_law (Factor n) (read_factor n) (deep n).law (some_factor n)) sum_mark sum_apart (Mark Plus, _, refl) (some_term (Factor n) (read_factor n) (deep n).law (some_factor n)) operated
-      c.loop-op.left (tokens_of c.loop-op.rest.now) (tokens_of c.in-Some.after.now) c.in-Some.op (c.in_ok-right.right, tokens_of c.in_ok-right.next.now) c.in-Some.ensures c.in_ok-right.ensures
+    c.loop-op.left (tokens_of c.loop-op.rest.now) (tokens_of c.in-Some.after.now) c.in-Some.op (c.in_ok-right.right, tokens_of c.in_ok-right.next.now) c.in-Some.ensures c.in_ok-right.ensures
     ∙ ap (λ e. onward operated sum_mark (read_term (read_factor n)) e (tokens_of c.in_ok-right.next.now)) (sym c.in_ok-left-2.ensures)
 
 pub sum-loop-op-smaller : goal.sum-loop-op-smaller
 sum-loop-op-smaller t c =
     let n = c.args.nested in
     let less = front_less (Term (Factor n)) term_goes (read_term (read_factor n)) (term_law (Factor n) (read_factor n) (deep n).law (some_factor n)) sum_mark sum_apart (Mark Plus, _, refl) (some_term (Factor n) (read_factor n) (deep n).law (some_factor n)) operated
-      (tokens_of c.loop-op.rest.now) (tokens_of c.in-Some.after.now) c.in-Some.op (c.in_ok-right.right, tokens_of c.in_ok-right.next.now) c.in-Some.ensures c.in_ok-right.ensures in
+    (tokens_of c.loop-op.rest.now) (tokens_of c.in-Some.after.now) c.in-Some.op (c.in_ok-right.right, tokens_of c.in_ok-right.next.now) c.in-Some.ensures c.in_ok-right.ensures in
     omega (arith, less, length-map c.loop-op.rest.now (λ p. p.token), length-map c.in_ok-right.next.now (λ p. p.token))
 
 pub factor-returns-then-nested-eq0 : goal.factor-returns-then-nested-eq0
@@ -97,7 +97,7 @@ term-returns-in_err-left t c =
     let n = c.args.nested in
     let ts = tokens_of c.args.tokens.now in
     let h = fails_on c.in_err-left.field-0.0 (read_factor n ts) (read_term (read_factor n) ts)
-      (λ rest e. onward_fail (Factor n) never (read_factor n) (deep n).law product_mark (λ t e. refl) (Mark Star, _, refl) (some_factor n) operated from_left ts rest e) c.in_err-left.ensures in
+    (λ rest e. onward_fail (Factor n) never (read_factor n) (deep n).law product_mark (λ t e. refl) (Mark Star, _, refl) (some_factor n) operated from_left ts rest e) c.in_err-left.ensures in
     let p = err_from_is_err_and c.from_residual.result c.from_residual.ensures.1 in
     rw (p.1, p.2) h
 
@@ -107,6 +107,6 @@ sum-returns-in_err-left t c =
     let n = c.args.nested in
     let ts = tokens_of c.args.tokens.now in
     let h = fails_on c.in_err-left.field-0.0 (read_term (read_factor n) ts) (read_sum (read_factor n) ts)
-      (λ rest e. onward_fail (Term (Factor n)) term_goes (read_term (read_factor n)) (term_law (Factor n) (read_factor n) (deep n).law (some_factor n)) sum_mark sum_apart (Mark Plus, _, refl) (some_term (Factor n) (read_factor n) (deep n).law (some_factor n)) operated from_left ts rest e) c.in_err-left.ensures in
+    (λ rest e. onward_fail (Term (Factor n)) term_goes (read_term (read_factor n)) (term_law (Factor n) (read_factor n) (deep n).law (some_factor n)) sum_mark sum_apart (Mark Plus, _, refl) (some_term (Factor n) (read_factor n) (deep n).law (some_factor n)) operated from_left ts rest e) c.in_err-left.ensures in
     let p = err_from_is_err_and c.from_residual.result c.from_residual.ensures.1 in
     rw (p.1, p.2) h

@@ -26,5 +26,5 @@ pub loop-after-preserved : goal.loop-after-preserved
 loop-after-preserved c =
     c.loop-after.invariant
     ∙ onward_front (One name) never (read_one name) (one_law name some_name) comma (λ t e. refl) (Mark Comma, tt, refl) one_name grown
-      c.loop-after.all.items (tokens_of c.loop-after.rest.now) (tokens_of c.in-Some.after.now) tt (c.in_ok-next.next, tokens_of c.in_ok-next.further.now) c.in-Some.ensures c.in_ok-next.ensures
+    c.loop-after.all.items (tokens_of c.loop-after.rest.now) (tokens_of c.in-Some.after.now) tt (c.in_ok-next.next, tokens_of c.in_ok-next.further.now) c.in-Some.ensures c.in_ok-next.ensures
     ∙ ap (λ all. onward grown comma (read_one name) all (tokens_of c.in_ok-next.further.now)) (search rules)

@@ -30,5 +30,5 @@ returns c =
     record {
       found = found_of Formula sum_goes (read_sum (read_factor 64)) formula_law ts c.whole.result c.whole.ensures;
       only = only_of Formula sum_goes (read_sum (read_factor 64)) formula_law ts c.whole.result c.whole.ensures;
-      fault = fault_of Formula sum_goes (read_sum (read_factor 64)) formula_law ts c.whole.result c.whole.ensures
+      fault = fault_of Formula sum_goes (read_sum (read_factor 64)) formula_law ts c.whole.result c.whole.ensures;
     }

@@ -1,5 +1,5 @@
 use Rattle.std.proofs.Common.{◌∙◌, sym}
-use Rattle.aso_outline.proofs.PlacedSeats.{within_tree}
+use Rattle.aso_outline.proofs.GraphRows.{within_tree}
 use Rattle.aso_outline.proofs.needs.push_needs.Goals as goal
 
 pub push_children-requires-clause-placed : goal.push_children-requires-clause-placed

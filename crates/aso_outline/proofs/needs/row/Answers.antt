@@ -1,20 +1,18 @@
-use Rattle.std.proofs.Common.{◌≡◌, ◌∙◌, true, List, Some, length, get_or, sym, ap, subst, arith}
+use Rattle.std.proofs.Common.{◌≡◌, ◌∙◌, List, Some, get_or, sym, ap}
 use Rattle.std.specs.Prelude.{slice_get}
 use Rattle.std.proofs.lemmas.Option.{slice_get-get_or}
 use Rattle.aso_outline.specs.declared.seat.Seat.{Seat}
 use Rattle.aso_outline.specs.declared.seat.Seat.TheVariants.{Whole}
-use Rattle.aso_outline.specs.Graph.{is_placed}
 use Rattle.aso_outline.specs.Members.{seats}
-use Rattle.aso_outline.proofs.PlacedSeats.{placed_at}
+use Rattle.aso_outline.proofs.Placed.{placed}
 use Rattle.aso_outline.proofs.GraphRows.{is_row}
 use Rattle.aso_outline.proofs.needs.row.Goals as goal
 
 pub needs_of-requires-clause-placed : goal.needs_of-requires-clause-placed
 needs_of-requires-clause-placed c =
-    let o = c.args.draft.now in
     let n = c.args.number in
-    let same : get_or (seats o) n (Whole 0) ≡ get_or c.args.table.now n (Whole 0) = ap (λ (xs : List Seat). get_or xs n (Whole 0)) (sym c.requires.is) in
-    subst (λ (s : Seat). is_placed o s ≡ true) same (placed_at o n (Whole 0) (omega (arith, ap length c.requires.is, c.requires.within)))
+    let s : Seat = get_or c.args.table.now n (Whole 0) in
+    placed c.args.draft.now n s (ap (λ (xs : List Seat). slice_get xs n) (sym c.requires.is) ∙ slice_get-get_or c.args.table.now n (Whole 0) c.requires.within)
 
 pub returns : goal.returns
 returns c =
