@@ -2,3 +2,4 @@ pub mod KeyLemmas
 pub mod LayoutLemmas
 pub mod BuildLemmas
 pub mod ViewLemmas
+pub mod MakingLemmas

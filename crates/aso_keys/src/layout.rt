@@ -6,8 +6,12 @@ ghost use Rattle.aso_keys.specs.Axes.{bits_of, AreClasses, key_of, fields_of, cl
 
 use crate::axis::Axis;
 use crate::keys::{fields_in, key_in, roll_in};
+use crate::making::dim_axis;
+use aso_memory::NoMemory;
 use aso_num::List;
+use aso_outline::{Outline, View};
 use aso_words::Words;
+use std::alloc::Global;
 use std::marker::Model;
 
 /// Where the class of each dimension stands in the keys of a view. To a contract it is the list of its dimensions.
@@ -31,6 +35,40 @@ impl Model for Layout {
 }
 
 impl Layout {
+    ghost use Rattle.std.specs.Prelude.{IfOk};
+    ghost use Rattle.aso_keys.specs.Axes.{ArePlaced};
+    ghost use Rattle.aso_keys.specs.Layouts.{IsLayout};
+    ghost use Rattle.aso_keys.specs.Views.{IsView};
+
+    /// The layout of a view: for each dimension level 0, or a level of a stored hierarchy from 1 to its top. Shifts, widths
+    /// and the tables of classes are made here, in time and memory in proportion to the data leaves and classes.
+    pub fn new(alloc: Global, outline: &Outline, view: &View) -> Result<Layout, NoMemory>
+        requires { IsView outline.now view.now.choices }
+        ensures { IfOk result (IsLayout outline.now view.now.choices) }
+    {
+        outline.keeps_counts();
+        let dims = outline.dims();
+        let mut axes = Vec::new(alloc);
+        let mut bits = 0u32;
+        for back in 0..dims {
+            let axis = dim_axis(alloc, outline, view, dims - 1 - back, bits)?;
+            bits += axis.width;
+            axes.push(axis)?;
+        }
+        axes.reverse();
+        Ok(Layout {
+            axes: List::of(axes),
+            bits: bits as u16,
+        })
+    }
+
+    /// Each dimension has the least number of bits that writes its classes, above those of the dimensions behind it.
+    pub fn keeps(&self)
+        ensures { ArePlaced self.now }
+    {
+        let _axes = &self.axes;
+    }
+
     /// How many bits a key has.
     pub fn bits(&self) -> u16
         ensures { result ≡ bits_of self.now }

@@ -5,6 +5,7 @@ mod axis;
 mod build;
 mod keys;
 mod layout;
+mod making;
 mod views;
 
 pub use aso_outline::View;
