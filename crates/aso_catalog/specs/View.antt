@@ -68,7 +68,7 @@ IsBefore {C} {g} catalog image = ForSome (g.seen catalog.slots) (λ seen. Before
 abbrev pub NoNewDoubt : {C : Type 0} {g : _} → Catalog C g → Catalog C g → Type 0
 NoNewDoubt old new = (image : List ℕ) → IsBefore new image → IsBefore old image
 
--- a crash at any moment from old to new leaves an image with P
+-- between the two moments no crash leaves an image without P
 abbrev pub Throughout : {C : Type 0} {g : _} → Catalog C g → Catalog C g → (List ℕ → Type 0) → Type 0
 Throughout {C} {g} old new P = LeavesOnly g.moment g.left old.slots new.slots P
 

@@ -10,13 +10,13 @@ pub trait Slots {
     /// How many bytes the device has.
     ghost extent: { Self → ℕ };
 
-    /// The bytes that a read gives, where the device tells them.
+    /// What reads give, on a device that tells it.
     ghost seen: { Self → Option (List ℕ) };
 
     /// The moment, a number that doesn't fall.
     ghost moment: { Self → ℕ };
 
-    /// What a crash at a moment, up to this one, may leave.
+    /// What may be left by a crash at a moment that has been, or now.
     ghost left: { Self → ℕ → List ℕ → Type 0 };
 
     /// How often the device has failed.

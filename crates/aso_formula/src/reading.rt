@@ -277,7 +277,7 @@ fn whole<'s, 'a>(alloc: Global, tokens: &'s [Placed<'a>]) -> Result<Expr, Stop<'
     }
 }
 
-/// The formula that the tokens spell, or the tokens from the fault on.
+/// The formula spelt by the tokens, or the tokens from the fault on.
 pub(crate) fn parse_tokens<'s, 'a>(
     alloc: Global,
     tokens: &'s [Placed<'a>],

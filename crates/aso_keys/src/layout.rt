@@ -103,7 +103,7 @@ impl Layout {
         fields_in(self.axes.items(), key, into);
     }
 
-    /// The key at a coarser view. It is none exactly where a field of the key is no class that a data leaf has, or where
+    /// The key at a coarser view. None exactly where a field is no class that a data leaf has, or where
     /// the leaves of a class have no class at the coarser view.
     pub fn roll<const W: usize>(&self, key: &Words<W>, to: &Layout) -> Option<Words<W>>
         requires some { 1 ≤ W }

@@ -15,7 +15,13 @@ use aso_outline::{Outline, View};
 use std::alloc::Global;
 
 // The class of each data leaf at a level of a hierarchy.
-fn classes_of(alloc: Global, outline: &Outline, dim: u32, hier: u32, level: u32) -> Result<Vec<Option<u32>>, NoMemory>
+fn classes_of(
+    alloc: Global,
+    outline: &Outline,
+    dim: u32,
+    hier: u32,
+    level: u32,
+) -> Result<Vec<Option<u32>>, NoMemory>
     requires dim { dim < length outline.now.dims }
     requires hier { hier < length (dim_at outline.now dim).hiers }
     requires level { level ≤ top_of outline.now dim hier }
@@ -46,7 +52,13 @@ fn choice(outline: &Outline, view: &View, dim: u32) -> (u32, u32)
 }
 
 // A dimension at a view, with the bits of its keys from `shift` on.
-pub fn dim_axis(alloc: Global, outline: &Outline, view: &View, dim: u32, shift: u32) -> Result<Axis, NoMemory>
+pub fn dim_axis(
+    alloc: Global,
+    outline: &Outline,
+    view: &View,
+    dim: u32,
+    shift: u32,
+) -> Result<Axis, NoMemory>
     requires view { IsView outline.now view.now.choices }
     requires dim { dim < length outline.now.dims }
     ensures axis { IfOk result IsAxis }

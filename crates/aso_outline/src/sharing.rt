@@ -54,7 +54,7 @@ fn is_leaf_name(draft: &Draft, table: &[Seat], names: &NameTable, dim: u32, name
     }
 }
 
-/// The member has no formula, solve order, attribute or label-only mark.
+/// The member is marked in no way: no formula, no solve order, no attribute, not label-only.
 pub fn is_bare(draft: &Draft, seat: Seat) -> bool
     ensures { result ≡ has is_bare draft.now seat }
 {
