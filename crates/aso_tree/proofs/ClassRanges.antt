@@ -46,6 +46,39 @@ module _ (p : ℕ → Bool) where
       let rest = before_le (a + 1) b (omega (arith, low)) in
       omega (arith, sum, one, rest)
 
+module _ (lo hi k : ℕ) where
+  in_range : lo ≤ k → k < hi → (nat_le lo k && nat_lt k hi) ≡ true
+  in_range a b = rw (le-leb lo k a, lt-ltb k hi b) refl
+
+  below_range : k < lo → (nat_le lo k && nat_lt k hi) ≡ false
+  below_range a = rw (lt-leb lo k a) refl
+
+  past_range : hi ≤ k → (nat_le lo k && nat_lt k hi) ≡ false
+  past_range b = by_second (nat_le lo k) (nat_lt k hi) (le-ltb k hi b)
+    where
+      by_second : (x y : Bool) → y ≡ false → (x && y) ≡ false
+      by_second true y e = e
+      by_second false y e = refl
+
+-- Of those that pass, counted from the first on, the ones at or below a node stand in a row.
+module _ (parents : List ℕ) (tree : IsTree parents) (node end : ℕ) (ends : EndsAt parents tree node end) (p : ℕ → Bool) where
+  lt_or_ge : (a b : ℕ) → (a < b) ⊎ (b ≤ a)
+  lt_or_ge a b = grind arith
+
+  pub in_passing_range : (t : ℕ) → t < length parents → p t ≡ true
+      → (nat_le (length (filter p (range_with_len 0 node))) (length (filter p (range_with_len 0 t))) && nat_lt (length (filter p (range_with_len 0 t))) (length (filter p (range_with_len 0 end)))) ≡ is_under parents node t
+  in_passing_range t low pass =
+      ⊎_elim
+      (λ (first : t < node). below_range _ _ _ (before_lt p t node first pass) ∙ sym (opposite _ (λ h. let after = under_le t parents node t (omega arith) h in omega (arith, after, first))))
+      (λ (from : node ≤ t). ⊎_elim
+      (λ (less : t < end). in_range _ _ _ (before_le p node t from) (before_lt p t end less pass) ∙ sym (ends.below t from less))
+      (λ (past : end ≤ t). past_range _ _ _ (before_le p end t past) ∙ sym (under_stops parents tree node end ends.low (ends.stop (omega (arith, past, low))) (t - end) t (omega (arith, past)) low))
+      (lt_or_ge t end))
+      (lt_or_ge t node)
+
+  pub passing_in_order : length (filter p (range_with_len 0 node)) ≤ length (filter p (range_with_len 0 end))
+  passing_in_order = before_le p node end (let low = ends.low in omega (arith, low))
+
 module _ (parents : List ℕ) (tree : IsTree parents) (short : length parents < 2 ^ 32) where
   -- no node is higher than the first
   pub height_root : (n k : ℕ) → k ≤ n → k < length parents → height parents k ≤ height parents 0
@@ -198,34 +231,18 @@ module _ (parents : List ℕ) (tree : IsTree parents) (short : length parents < 
           higher (slice_index parents end) apart (end - 1) (end - 1) (omega arith) (omega (arith, ends.low, low)) under_node (ap (λ (k : ℕ). is_under parents k (end - 1)) (sym same) ∙ at) in
           omega (arith, most, high)
 
-      in_range : (lo hi class : ℕ) → lo ≤ class → class < hi → (nat_le lo class && nat_lt class hi) ≡ true
-      in_range lo hi class a b = rw (le-leb lo class a, lt-ltb class hi b) refl
+      same_bool : (a b : Bool) → (a ≡ true → b ≡ true) → (b ≡ true → a ≡ true) → a ≡ b
+      same_bool true b there back = sym (there refl)
+      same_bool false true there back = back refl
+      same_bool false false there back = refl
 
-      below_range : (lo hi class : ℕ) → class < lo → (nat_le lo class && nat_lt class hi) ≡ false
-      below_range lo hi class a = rw (lt-leb lo class a) refl
-
-      past_range : (lo hi class : ℕ) → hi ≤ class → (nat_le lo class && nat_lt class hi) ≡ false
-      past_range lo hi class b = by_first (nat_le lo class) (nat_lt class hi) (le-ltb class hi b)
-        where
-          by_first : (a b : Bool) → b ≡ false → (a && b) ≡ false
-          by_first true b e = e
-          by_first false b e = refl
-
+      -- a node has its class in the range exactly where it lies at or below the node
       pub in_class_range : (i class : ℕ) → i < length parents → class_of parents level i ≡ Some class
           → (nat_le (classes_before parents level node) class && nat_lt class (classes_before parents level end)) ≡ is_under parents node i
       in_class_range i class low has =
-          ⊎_elim
-          (λ (first : found.0 < node). let less = before_lt (is_class parents level) found.0 node first top.is in below_range _ _ class (omega (arith, less, top.number)) ∙ sym (opposite _ (λ h. let after = under_le found.0 parents node found.0 (omega arith) (top.below node high h) in omega (arith, after, first))))
-          (λ (from : node ≤ found.0). ⊎_elim
-          (λ (less : found.0 < end).
-          let lo = before_le (is_class parents level) node found.0 from in
-          let hi = before_lt (is_class parents level) found.0 end less top.is in
-          in_range _ _ class (omega (arith, lo, top.number)) (omega (arith, hi, top.number)) ∙ sym (under_trans i parents node found.0 i (omega arith) (ends.below found.0 from less) top.at))
-          (λ (past : end ≤ found.0).
-          let hi = before_le (is_class parents level) end found.0 past in
-          past_range _ _ class (omega (arith, hi, top.number)) ∙ sym (opposite _ (λ h. true≢false (sym (top.below node high h) ∙ under_stops parents tree node end ends.low (ends.stop (omega (arith, past, top.within))) (found.0 - end) found.0 (omega (arith, past)) top.within))))
-          (lt_or_le found.0 end))
-          (lt_or_le found.0 node)
+          ap (λ (n : ℕ). nat_le (classes_before parents level node) n && nat_lt n (classes_before parents level end)) (sym top.number)
+          ∙ (in_passing_range parents tree node end ends (is_class parents level) found.0 top.within top.is
+          ∙ same_bool (is_under parents node found.0) (is_under parents node i) (λ h. under_trans i parents node found.0 i (omega arith) h top.at) (λ h. top.below node high h))
         where
           found : (t : ℕ) × IsTop i class t
           found = top_of i i class (omega arith) low has
