@@ -1,6 +1,5 @@
 -- What the look-ups give on the Basic outline's 23 members, and on a tree of uneven height.
-use Rattle.std.proofs.Common.{◌≡◌, ℕ, List, [], ◌∷◌, Bool, true, false, refl, codes, Some, None, Option, map, length}
-use Rattle.std.specs.Option.{option_map}
+use Rattle.std.proofs.Common.{◌≡◌, List, [], ◌∷◌, true, false, refl, codes, Some, None, map}
 use Rattle.std.specs.List.{range_with_len}
 use Rattle.aso_outline.specs.declared.draft.Draft.{Draft}
 use Rattle.aso_outline.specs.declared.draft.Expr.TheBlock.{hidden-the_row-Expr-0}
@@ -13,7 +12,7 @@ use Rattle.aso_outline.specs.Classes.{carries, class_at, classes_at, is_stored, 
 use Rattle.aso_outline.specs.Heights.{first_child_of, height_of, next_child_of, top_of}
 use Rattle.aso_outline.specs.Marks.{solve_of}
 use Rattle.aso_outline.specs.Ranks.{named}
-use Rattle.aso_outline.specs.Numbers.{dim_ref, hier_of, root_of, seat_of}
+use Rattle.aso_outline.specs.Numbers.{root_of, seat_of}
 use Rattle.aso_outline.proofs.Basic.{basic, dim, m, outline, root, stored}
 
 abbrev on_all : {X : Type 0} → (Draft → Seat → X) → List X

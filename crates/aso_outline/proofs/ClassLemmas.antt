@@ -1,11 +1,10 @@
 -- Data leaves by ordinal, and the levels of a hierarchy.
-use Rattle.std.specs.Prelude.{slice_get, slice_index, unwrap_or, if◌then◌else◌, IfSome}
-use Rattle.std.specs.Option.{option_map, option_and_then}
+use Rattle.std.specs.Prelude.{slice_get, slice_index, if◌then◌else◌, IfSome}
+use Rattle.std.specs.Option.{option_and_then}
 use Rattle.std.specs.List.{filter, position, range_with_len}
-use Rattle.std.proofs.Common.{◌≡◌, ◌∙◌, ℕ, zero, suc, ◌+◌, ◌-◌, ◌<◌, ◌≤◌, ◌^◌, ◌&&◌, ◌⊎◌, ⊎_elim, Bool, true, false, not, cond, List, [], ◌∷◌, ◌++◌, map, length, get_or, Option, Some, None, refl, sym, ap, arith, true≢false, length-append}
+use Rattle.std.proofs.Common.{◌≡◌, ◌∙◌, ℕ, zero, suc, ◌+◌, ◌-◌, ◌<◌, ◌≤◌, ◌^◌, Bool, true, false, not, cond, List, ◌∷◌, ◌++◌, length, get_or, Option, Some, None, refl, sym, ap, arith, length-append}
 use Rattle.std.proofs.lemmas.List.Quantifiers.{position-Some}
-use Rattle.std.proofs.lemmas.Option.{get_or_from_slice_get, none-some, slice_get-get_or, slice_get_within}
-use Rattle.std.proofs.lemmas.List.FromFn.{get_or-map-range_with_len, length-map-range_with_len}
+use Rattle.std.proofs.lemmas.Option.{get_or_from_slice_get, none-some}
 use Rattle.std.proofs.lemmas.List.Elements.{filter-append}
 use Rattle.aso_tree.specs.Trees.{class_count, class_of, classes, height, is_leaf, places_of, IsTree}
 use Rattle.aso_tree.proofs.Children.{parent_before}

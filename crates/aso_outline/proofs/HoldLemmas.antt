@@ -1,19 +1,19 @@
 -- What a member holds, by the places of data leaves.
-use Rattle.std.specs.Prelude.{slice_get, slice_index, unwrap_or, if◌then◌else◌}
+use Rattle.std.specs.Prelude.{slice_get, slice_index, unwrap_or}
 use Rattle.std.specs.Option.{option_map, option_and_then}
-use Rattle.std.specs.List.{cons_option, filter, filter_map, list_any, position, range_with_len}
-use Rattle.std.proofs.Common.{◌≡◌, ◌∙◌, ℕ, zero, suc, ◌+◌, ◌-◌, ◌<◌, ◌≤◌, ◌&&◌, ◌||◌, ◌⊎◌, ⊎_elim, inl, inr, Bool, true, false, cond, List, [], ◌∷◌, map, get_or, length, Option, Some, None, refl, sym, ap, arith, add-one, true≢false}
+use Rattle.std.specs.List.{filter, filter_map, list_any, position, range_with_len}
+use Rattle.std.proofs.Common.{◌≡◌, ◌∙◌, ℕ, zero, suc, ◌+◌, ◌-◌, ◌<◌, ◌≤◌, ◌&&◌, ◌||◌, ◌⊎◌, ⊎_elim, inl, inr, Bool, true, false, cond, List, [], ◌∷◌, get_or, length, Option, Some, None, refl, sym, ap, arith, add-one, true≢false}
 use Rattle.std.proofs.lemmas.Bool.{eqb-true}
 use Rattle.std.proofs.lemmas.List.Folds.{list_any-append}
 use Rattle.std.proofs.lemmas.List.Quantifiers.{position-Some}
-use Rattle.std.proofs.lemmas.Option.{get_or_from_slice_get, none-some, same_Some, slice_get-get_or, slice_get_past, slice_get_within}
+use Rattle.std.proofs.lemmas.Option.{get_or_from_slice_get, same_Some, slice_get-get_or, slice_get_past}
 use Rattle.aso_tree.specs.Trees.{is_leaf, is_under, places_of, under, IsTree}
 use Rattle.aso_tree.proofs.Ends.{ends, leaf_of_span, span_of}
 use Rattle.aso_outline.specs.declared.draft.Draft.{Draft}
 use Rattle.aso_outline.specs.declared.draft.DraftMember.{DraftMember}
 use Rattle.aso_outline.specs.declared.seat.Seat.{Seat}
 use Rattle.aso_outline.specs.declared.seat.Seat.TheVariants.{Whole, Inner, Carried}
-use Rattle.aso_outline.specs.Classes.{holds_place, leaf_count, leaf_place, sharer_of}
+use Rattle.aso_outline.specs.Classes.{holds_place, leaf_count, leaf_place}
 use Rattle.aso_outline.specs.Leaves.{is_data_place, name_in}
 use Rattle.aso_outline.specs.Members.{Name, data_leaves, dim_at, dim_of, has_under, holds, holds_name, is_dynamic, leaf_names, names_at, parents_of, resolve, same_name, seats, tree}
 use Rattle.aso_outline.specs.Parents.{one_parent_each}

@@ -1,11 +1,11 @@
 -- A next child is one of the members, and no height is past 31.
 use Rattle.std.specs.Prelude.{nat_lt}
 use Rattle.std.specs.List.{filter, fold, position, position_or_len, range_with_len}
-use Rattle.std.proofs.Common.{◌≡◌, ◌∙◌, ℕ, zero, suc, ◌+◌, ◌-◌, ◌<◌, ◌≤◌, ◌⊎◌, ⊎_elim, Bool, true, false, not, ◌||◌, cond, max, List, [], ◌∷◌, map, length, Option, Some, None, refl, sym, ap, arith, true≢false}
+use Rattle.std.proofs.Common.{◌≡◌, ◌∙◌, ℕ, zero, suc, ◌+◌, ◌-◌, ◌<◌, ◌≤◌, ◌⊎◌, ⊎_elim, Bool, true, false, not, ◌||◌, cond, max, List, ◌∷◌, map, length, Some, None, refl, sym, ap, arith, true≢false}
 use Rattle.std.proofs.lemmas.Bool.{lt-ltb, ltb-true}
 use Rattle.std.proofs.lemmas.Option.{none-some, same_Some}
 use Rattle.std.proofs.lemmas.List.FromFn.{length-range_with_len}
-use Rattle.aso_tree.specs.Trees.{depth, height, is_deep, is_misplaced, is_under, next_child, places_of, stands, IsTree}
+use Rattle.aso_tree.specs.Trees.{depth, height, is_deep, is_under, next_child, places_of, stands, IsTree}
 use Rattle.aso_outline.specs.declared.draft.DraftMember.{DraftMember}
 use Rattle.aso_outline.specs.Members.{parents_of}
 use Rattle.aso_outline.specs.Parents.{one_parent_each}

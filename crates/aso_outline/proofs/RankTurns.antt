@@ -1,8 +1,8 @@
 -- Ranks, one turn more.
-use Rattle.std.specs.Prelude.{max, slice_get, unwrap_or, IfSome, if◌then◌else◌}
+use Rattle.std.specs.Prelude.{max, slice_get, unwrap_or, if◌then◌else◌}
 use Rattle.std.specs.Option.{option_map, option_and_then}
 use Rattle.std.specs.List.{list_any, range_with_len}
-use Rattle.std.proofs.Common.{◌≡◌, ◌∙◌, ℕ, zero, suc, ◌+◌, ◌-◌, ◌<◌, ◌≤◌, ◌^◌, ◌||◌, ⊎_elim, eqb, Bool, false, List, [], ◌∷◌, length, map, get_or, drop, replicate, Option, Some, None, refl, sym, ap, arith}
+use Rattle.std.proofs.Common.{◌≡◌, ◌∙◌, ℕ, zero, suc, ◌+◌, ◌-◌, ◌<◌, ◌≤◌, ◌||◌, ⊎_elim, eqb, Bool, false, List, [], ◌∷◌, length, map, get_or, drop, replicate, Option, Some, None, refl, sym, ap, arith}
 use Rattle.std.proofs.Math.Seq.{drop-cons}
 use Rattle.std.proofs.lemmas.Option.{none-some, same_Some, slice_get_cases}
 use Rattle.aso_tree.specs.Trees.{places_of}
@@ -10,9 +10,9 @@ use Rattle.aso_outline.specs.declared.draft.Draft.{Draft}
 use Rattle.aso_outline.specs.declared.row.Standing.{Standing}
 use Rattle.aso_outline.specs.declared.row.Standing.TheVariants.{Stored, Label, Computed}
 use Rattle.aso_outline.specs.declared.seat.Seat.{Seat}
-use Rattle.aso_outline.specs.Graph.{rank_in, reach_in}
+use Rattle.aso_outline.specs.Graph.{reach_in}
 use Rattle.aso_outline.specs.Members.{is_computed, seats}
-use Rattle.aso_outline.specs.Ranks.{greatest_rank, needs, needs_at, needs_itself, rank, rank_from, rank_within, reaches, standing_at, standing_of}
+use Rattle.aso_outline.specs.Ranks.{greatest_rank, needs, needs_at, needs_itself, rank_from, rank_within, reaches, standing_at, standing_of}
 use Rattle.aso_outline.proofs.Turns.{any_same, in_turn, map_same, same_tables, stays}
 
 -- ---- the greatest rank
@@ -73,18 +73,13 @@ none_le Label r e = absurd (none-some r e)
 none_le Computed r e = absurd (none-some r e)
 
 module _ (o : Draft) where
-  rank_le : (t k r : ℕ) → rank_within t o k ≡ Some r → r ≤ t
+  pub rank_le : (t k r : ℕ) → rank_within t o k ≡ Some r → r ≤ t
   rank_le zero k r e = none_le (standing_of o k) r e
   rank_le (suc t) k r e =
       let le : r ≤ t + 1 = from_le (standing_of o k) (greatest_rank (map (rank_within t o) (needs o k))) t (greatest_le t (rank_within t o) (rank_le t) (needs o k)) r e in
       omega (arith, le)
 
-  pub below_small : (t : ℕ) (ks : List ℕ) (b : Option ℕ) → b ≡ greatest_rank (map (rank_within t o) ks) → t + 1 < 2 ^ 32 → IfSome b (λ r. r + 1 < 2 ^ 32)
-  below_small t ks None is few = tt
-  below_small t ks (Some r) is few =
-      let le : r ≤ t = greatest_le t (rank_within t o) (rank_le t) ks r (sym is) in omega (arith, le, few)
-
-  -- ---- tables of ranks
+  -- ---- past the last member
 
   no_seat : (k : ℕ) → length (seats o) ≤ k → slice_get (seats o) k ≡ None
   no_seat k past =
@@ -96,43 +91,19 @@ module _ (o : Draft) where
   stored_past : (k : ℕ) → length (seats o) ≤ k → standing_of o k ≡ Stored
   stored_past k past = ap (λ (s : Option Seat). unwrap_or (option_map (standing_at o) s) Stored) (no_seat k past)
 
-  rank_past : (t k : ℕ) → length (seats o) ≤ k → rank_within t o k ≡ Some 0
+  pub rank_past : (t k : ℕ) → length (seats o) ≤ k → rank_within t o k ≡ Some 0
   rank_past zero k past = ap (λ st. rank_from st None) (stored_past k past)
   rank_past (suc t) k past = ap (λ st. rank_from st (greatest_rank (map (rank_within t o) (needs o k)))) (stored_past k past)
 
-  pub ranks_in : (t : ℕ) (ranks : List (Option ℕ)) → ranks ≡ map (rank_within t o) (places_of (seats o)) → (k : ℕ) → rank_in ranks k ≡ rank_within t o k
-  ranks_in t ranks is = in_turn (rank_within t o) (length (seats o)) (Some 0) (rank_past t) ranks is
-
-  pub next_is : (t k : ℕ) (ranks : List (Option ℕ)) (st : Standing) (ks : List ℕ) → ranks ≡ map (rank_within t o) (places_of (seats o)) → st ≡ standing_of o k → ks ≡ needs o k
-      → rank_from st (greatest_rank (map (rank_in ranks) ks)) ≡ rank_within (suc t) o k
-  next_is t k ranks st ks is standing needed =
-      ap (λ (rs : List (Option ℕ)). rank_from st (greatest_rank rs)) (map_same (rank_in ranks) (rank_within t o) (ranks_in t ranks is) ks)
-      ∙ (ap (λ (x : Standing). rank_from x (greatest_rank (map (rank_within t o) ks))) standing
-      ∙ ap (λ (xs : List ℕ). rank_from (standing_of o k) (greatest_rank (map (rank_within t o) xs))) needed)
-
-  rank_next : (a b : ℕ) → ((k : ℕ) → rank_within a o k ≡ rank_within b o k) → (k : ℕ) → rank_within (suc a) o k ≡ rank_within (suc b) o k
+  pub rank_next : (a b : ℕ) → ((k : ℕ) → rank_within a o k ≡ rank_within b o k) → (k : ℕ) → rank_within (suc a) o k ≡ rank_within (suc b) o k
   rank_next a b same k = ap (λ (rs : List (Option ℕ)). rank_from (standing_of o k) (greatest_rank rs)) (map_same (rank_within a o) (rank_within b o) same (needs o k))
-
-  -- where a turn changes no rank, all are found
-  pub ranks_stay : (t : ℕ) (ranks next : List (Option ℕ)) → t ≤ length (seats o) → ranks ≡ map (rank_within t o) (places_of (seats o)) → next ≡ map (rank_within (suc t) o) (places_of (seats o))
-      → ((k : ℕ) → k < length (seats o) → get_or next k None ≡ get_or ranks k None) → ranks ≡ map (rank o) (places_of (seats o))
-  unfolding rank
-  ranks_stay t ranks next low is is_next same =
-      is ∙ map_same (rank_within t o) (rank_within (length (seats o)) o) (λ k. sym (stays (λ n k. rank_within n o k) rank_next t still (length (seats o) - t) (length (seats o)) k (omega (arith, low)))) (places_of (seats o))
-    where
-      still : (k : ℕ) → rank_within (suc t) o k ≡ rank_within t o k
-      still = same_tables (rank_within (suc t) o) (rank_within t o) (length (seats o)) (Some 0) None (rank_past (suc t)) (rank_past t) next ranks is_next is same
-
-  pub ranks_end : (t : ℕ) (ranks : List (Option ℕ)) → t ≡ length (seats o) → ranks ≡ map (rank_within t o) (places_of (seats o)) → ranks ≡ map (rank o) (places_of (seats o))
-  unfolding rank
-  ranks_end t ranks end is = is ∙ ap (λ (n : ℕ). map (rank_within n o) (places_of (seats o))) end
 
   -- ---- circles
 
   needs_past : (k : ℕ) → length (seats o) ≤ k → needs o k ≡ []
   needs_past k past = ap (λ (s : Option Seat). unwrap_or (option_map (λ (s : Seat). if is_computed o s then needs_at o k s else []) s) []) (no_seat k past)
 
-  reach_past : (t goal k : ℕ) → length (seats o) ≤ k → reaches t o goal k ≡ false
+  pub reach_past : (t goal k : ℕ) → length (seats o) ≤ k → reaches t o goal k ≡ false
   reach_past zero goal k past = refl
   reach_past (suc t) goal k past = ap (list_any (λ (j : ℕ). eqb j goal || reaches t o goal j)) (needs_past k past)
 
@@ -145,7 +116,7 @@ module _ (o : Draft) where
       any_same (λ (j : ℕ). eqb j goal || reach_in reach j) (λ (j : ℕ). eqb j goal || reaches t o goal j) (λ j. ap (λ (b : Bool). eqb j goal || b) (reach_all t goal reach is j)) ks
       ∙ ap (list_any (λ (j : ℕ). eqb j goal || reaches t o goal j)) needed
 
-  reach_next : (goal a b : ℕ) → ((k : ℕ) → reaches a o goal k ≡ reaches b o goal k) → (k : ℕ) → reaches (suc a) o goal k ≡ reaches (suc b) o goal k
+  pub reach_next : (goal a b : ℕ) → ((k : ℕ) → reaches a o goal k ≡ reaches b o goal k) → (k : ℕ) → reaches (suc a) o goal k ≡ reaches (suc b) o goal k
   reach_next goal a b same k =
       any_same (λ (j : ℕ). eqb j goal || reaches a o goal j) (λ (j : ℕ). eqb j goal || reaches b o goal j) (λ j. ap (λ (x : Bool). eqb j goal || x) (same j)) (needs o k)
 

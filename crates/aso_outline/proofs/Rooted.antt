@@ -1,5 +1,5 @@
 -- Each hierarchy and each attribute dimension has a root, and a label-only member stands for a member.
-use Rattle.std.specs.Prelude.{slice_get, unwrap_or, is_some, nat_le, if◌then◌else◌}
+use Rattle.std.specs.Prelude.{slice_get, unwrap_or, nat_le, if◌then◌else◌}
 use Rattle.std.specs.Option.{option_map}
 use Rattle.std.specs.List.{list_all, position}
 use Rattle.std.proofs.Common.{◌≡◌, ◌∙◌, ℕ, zero, suc, ◌+◌, ◌<◌, ◌≤◌, ◌&&◌, ◌⊎◌, ⊎_elim, Bool, true, false, not, List, [], ◌∷◌, drop, length, length-drop, Option, Some, None, refl, sym, ap, arith, true≢false}
@@ -15,7 +15,7 @@ use Rattle.aso_outline.specs.declared.draft.DraftMember.{DraftMember}
 use Rattle.aso_outline.specs.declared.seat.Seat.{Seat}
 use Rattle.aso_outline.specs.declared.seat.Seat.TheVariants.{Whole, Inner, Carried}
 use Rattle.aso_outline.specs.Kept.{HasRoots}
-use Rattle.aso_outline.specs.Members.{attr_tree, dim_at, member_is, no_dim, parents_of, past_labels, resolve, seats, tree}
+use Rattle.aso_outline.specs.Members.{dim_at, member_is, no_dim, parents_of, past_labels, resolve, seats, tree}
 use Rattle.aso_outline.specs.Numbers.{IsSeat}
 use Rattle.aso_outline.specs.Parents.{one_parent_each}
 use Rattle.aso_outline.specs.Rules.{Rule, breaks_labels, breaks_sharing, broken, least_repeat, own_names, repeats, first_broken, has_counts, has_members, is_counted_attr, is_counted_dim, is_within, least, rules}
@@ -27,7 +27,7 @@ use Rattle.aso_outline.proofs.Smalls.{and_left, and_right}
 
 -- ---- each rule is kept
 
-each_kept : (rs : List Rule) (o : Draft) → first_broken rs o ≡ None → (k : ℕ) (r : Rule) → slice_get rs k ≡ Some r → r.1 o ≡ None
+pub each_kept : (rs : List Rule) (o : Draft) → first_broken rs o ≡ None → (k : ℕ) (r : Rule) → slice_get rs k ≡ Some r → r.1 o ≡ None
 each_kept [] o kept k r is = absurd (none-some r is)
 each_kept (x ∷ rs) o kept zero r is = ap (λ (y : Rule). y.1 o) (sym (same_Some x r is)) ∙ (kept_first x rs o kept).0
 each_kept (x ∷ rs) o kept (suc k) r is = each_kept rs o (kept_first x rs o kept).1 k r is

@@ -22,7 +22,7 @@ pub any_same : (p q : ℕ → Bool) → ((k : ℕ) → p k ≡ q k) → (ks : Li
 any_same p q same [] = refl
 any_same p q same (k ∷ ks) = ap (λ (b : Bool). b || list_any p ks) (same k) ∙ ap (λ (b : Bool). q k || b) (any_same p q same ks)
 
-below_or_past : (k n : ℕ) → (k < n) ⊎ (n ≤ k)
+pub below_or_past : (k n : ℕ) → (k < n) ⊎ (n ≤ k)
 below_or_past k n = grind arith
 
 module _ {X : Type 0} (f : ℕ → X) (n : ℕ) (d : X) (past : (k : ℕ) → n ≤ k → f k ≡ d) (ys : List X) (is : ys ≡ map f (range_with_len 0 n)) where

@@ -1,11 +1,10 @@
 -- A data leaf's name stands once in its first hierarchy, and at most once in another stored one.
 use Rattle.std.specs.Prelude.{is_some, slice_get, unwrap_or, if◌then◌else◌}
 use Rattle.std.specs.Option.{option_map, option_and_then}
-use Rattle.std.specs.Cmp.Lexicographic.{pointwise}
 use Rattle.std.specs.List.{list_any, position}
 use Rattle.std.proofs.Common.{◌≡◌, ◌∙◌, ℕ, zero, suc, ◌+◌, ◌<◌, ◌≤◌, ◌&&◌, ◌||◌, ◌⊎◌, ⊎_elim, Bool, true, false, not, eqb, List, [], ◌∷◌, take, get_or, length, Option, Some, None, refl, sym, ap, arith, true≢false, eq-eqb}
 use Rattle.std.proofs.lemmas.Option.{get_or_from_slice_get, none-some, same_Some, slice_get-map, slice_get_within}
-use Rattle.aso_tree.specs.Trees.{is_leaf, places_of}
+use Rattle.aso_tree.specs.Trees.{places_of}
 use Rattle.aso_tree.proofs.Ends.{either}
 use Rattle.aso_tree.proofs.Firsts.{first_is}
 use Rattle.aso_tree.proofs.Positions.{none_of_range, some_if_any}
@@ -18,7 +17,6 @@ use Rattle.aso_outline.specs.Members.{Name, dim_at, has, is_childless, is_dynami
 use Rattle.aso_outline.specs.Rules.{breaks_sharing, is_alternate, is_bare, is_leaf_name, is_shared, is_shared_before, is_well_shared, name_at, own_names, repeats, same_own, shares}
 use Rattle.aso_outline.specs.Tables.{before_hier}
 use Rattle.aso_outline.proofs.AtSeats.{none_at}
-use Rattle.aso_outline.proofs.Known.{same_is}
 use Rattle.aso_outline.proofs.LeafNames.{some_at}
 use Rattle.aso_outline.proofs.NumberLemmas.{number_inner}
 use Rattle.aso_outline.proofs.Smalls.{and_left, and_right}

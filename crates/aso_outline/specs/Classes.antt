@@ -6,7 +6,7 @@ use Rattle.aso_tree.specs.Trees.{class_count, class_of, is_under}
 use Rattle.aso_outline.specs.declared.draft.Draft.{Draft}
 use Rattle.aso_outline.specs.declared.draft.DraftMember.{DraftMember}
 use Rattle.aso_outline.specs.declared.seat.Seat.{Seat}
-use Rattle.aso_outline.specs.declared.seat.Seat.TheVariants.{Whole, Inner, Carried}
+use Rattle.aso_outline.specs.declared.seat.Seat.TheVariants.{Inner, Carried}
 use Rattle.aso_outline.specs.Leaves.{ordinal_in}
 use Rattle.aso_outline.specs.Members.{Name, attr_tree, data_leaves, dim_at, has_under, is_computed, leaf_names, member_at, parents_of, same_name, tree}
 use Rattle.aso_outline.specs.Ranks.{named}

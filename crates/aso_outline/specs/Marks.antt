@@ -1,5 +1,5 @@
 -- What stands at a member: its operator and solve order.
-use Rattle.std.specs.Prelude.{ℕ, Option, unwrap_or, if◌then◌else◌}
+use Rattle.std.specs.Prelude.{ℕ, unwrap_or, if◌then◌else◌}
 use Rattle.std.specs.Option.{option_map, option_and_then}
 use Rattle.aso_outline.specs.declared.draft.Draft.{Draft}
 use Rattle.aso_outline.specs.declared.draft.DraftMember.{DraftMember}

@@ -10,6 +10,7 @@ use Rattle.aso_outline.specs.declared.tables.DimTable.{DimTable}
 use Rattle.aso_outline.specs.declared.tables.Tables.{Tables}
 use Rattle.aso_outline.specs.declared.tables.TreeTable.{TreeTable}
 use Rattle.aso_outline.specs.Classes.{leaf_count, leaf_named, leaf_ordinal, shared_leaf, sharer_of}
+use Rattle.aso_outline.specs.Graph.{AreRanks}
 use Rattle.aso_outline.specs.Heights.{top_of}
 use Rattle.aso_outline.specs.Members.{Name, attr_seats, attr_tree, data_leaves, dim_at, dim_seats, hier_seats, parents_of, seats, tree, whole_seats}
 
@@ -53,3 +54,4 @@ pub record AreTables (o : Draft) (t : Tables) : Type 0 where
   pub seats : t.seats.items ≡ seats o
   pub dims : AreEach (IsDimTable o) (length o.dims) t.dims.items
   pub attrs : AreEach (IsAttrTable o) (length o.attrs) t.attrs.items
+  pub ranks : AreRanks o t.ranks.items

@@ -3,6 +3,7 @@ ghost use Rattle.std.specs.Prelude.{◌≡◌, ◌+◌, ◌<◌, ◌≤◌, ◌^
 ghost use Rattle.std.specs.List.{filter, range_with_len};
 ghost use Rattle.aso_tree.specs.Trees.{height, places_of, IsTree};
 ghost use Rattle.aso_outline.specs.Classes.{leaf_count, leaf_ordinal, shared_leaf, sharer_of};
+ghost use Rattle.aso_outline.specs.Graph.{AreRanks};
 ghost use Rattle.aso_outline.specs.Heights.{top_height};
 ghost use Rattle.aso_outline.specs.Leaves.{is_data_place, ordinal_in};
 ghost use Rattle.aso_outline.specs.Members.{attr_tree, data_leaves, dim_at, member_is, parents_of, seats, tree, tree_of, whole_seats};
@@ -346,22 +347,29 @@ fn attr_tables(alloc: Global, draft: &Draft, first: u32) -> Result<Vec<AttrTable
     Ok(tables)
 }
 
-fn sound_tables(alloc: Global, draft: &Draft) -> Result<Tables, NoMemory>
+fn sound_tables(alloc: Global, draft: &Draft, ranks: Vec<Option<u32>>) -> Result<Tables, NoMemory>
     requires trees { HasTrees draft.now }
     requires small { IsSmall draft.now }
     requires few { length (seats draft.now) < 2 ^ 32 }
+    requires ranks { AreRanks draft.now ranks.items }
     ensures { IfOk result (AreTables draft.now) }
 {
     let seats = seats(alloc, draft)?;
     let (dims, end) = dim_tables(alloc, draft)?;
     let attrs = attr_tables(alloc, draft, end)?;
-    Ok(Tables { seats, dims, attrs })
+    Ok(Tables {
+        seats,
+        dims,
+        attrs,
+        ranks,
+    })
 }
 
-/// The tables of a draft that keeps the rules.
-pub fn tables_of(alloc: Global, draft: &Draft) -> Result<Tables, NoMemory>
-    requires { broken draft.now ≡ None }
+/// The tables of a draft that keeps the rules, with its ranks.
+pub fn tables_of(alloc: Global, draft: &Draft, ranks: Vec<Option<u32>>) -> Result<Tables, NoMemory>
+    requires kept { broken draft.now ≡ None }
+    requires ranks { AreRanks draft.now ranks.items }
     ensures { IfOk result (AreTables draft.now) }
 {
-    sound_tables(alloc, draft)
+    sound_tables(alloc, draft, ranks)
 }

@@ -2,11 +2,10 @@
 ghost use Rattle.std.specs.Prelude.{◌≡◌, ◌==◌, ◌&&◌, ◌||◌, ◌<◌, ◌≤◌, ◌^◌, not, length, map, nat_le, slice_get, unwrap_or, IfOk};
 ghost use Rattle.std.specs.Option.{option_map};
 ghost use Rattle.std.specs.List.{list_all};
-ghost use Rattle.aso_tree.specs.Trees.{places_of};
 ghost use Rattle.aso_outline.specs.Atoms.{atoms};
-ghost use Rattle.aso_outline.specs.Graph.{AreRows};
+ghost use Rattle.aso_outline.specs.Graph.{AreRanks, AreRows};
 ghost use Rattle.aso_outline.specs.Members.{seats};
-ghost use Rattle.aso_outline.specs.Named.{Finds};
+ghost use Rattle.aso_outline.specs.Named.{Finds, IsRanked};
 ghost use Rattle.aso_outline.specs.Ranks.{at_number, rank};
 ghost use Rattle.aso_outline.specs.Rules.{are_of_different_dims, breaks_formulas, breaks_rank, count_in, has_wrong_atom, is_atom, is_base, is_operand, is_well_named, least_formula};
 ghost use Rattle.aso_outline.specs.Small.{HasTrees};
@@ -21,7 +20,7 @@ use crate::resolve::is_computed;
 use crate::row::Row;
 use crate::seat::Seat;
 use crate::sharing::{dim_of, is_of_dim};
-use crate::table::NameTable;
+use crate::table::{NameTable, Ranked};
 use aso_num::{NoMemory, Text};
 use std::alloc::Global;
 
@@ -224,7 +223,7 @@ fn first_wrong(
     requires few { length draft.now.dims < 2 ^ 32 }
     requires rows { AreRows draft.now rows.now }
     requires short { length rows.now < 2 ^ 32 }
-    requires ranks { ranks.now ≡ map (rank draft.now) (places_of (seats draft.now)) }
+    requires ranks { AreRanks draft.now ranks.now }
     ensures { IfOk result (λ r. r ≡ least_formula draft.now) }
 {
     let mut found = Vec::new(alloc);
@@ -238,28 +237,31 @@ fn first_wrong(
     Ok(None)
 }
 
-/// O11: the first member with a wrong atom, a rank past 64, or a rank that needs itself.
-pub fn least_wrong_formula(
+/// O11: the first member with a wrong atom, a rank past 64, or a rank that needs itself; else all ranks.
+pub fn rank_members(
     alloc: Global,
     draft: &Draft,
     table: &[Seat],
     names: &NameTable,
-) -> Result<Option<u32>, NoMemory>
+) -> Result<Ranked, NoMemory>
     requires is { table.now ≡ seats draft.now }
     requires short { length table.now < 2 ^ 32 }
     requires finds { Finds draft.now names.now }
     requires trees { HasTrees draft.now }
     requires few { length draft.now.dims < 2 ^ 32 }
-    ensures { IfOk result (λ r. r ≡ least_formula draft.now) }
+    ensures { IfOk result (IsRanked draft.now) }
 {
     let rows = rows(alloc, draft, table, names)?;
     let ranks = ranks(alloc, draft, rows.as_slice())?;
-    first_wrong(
+    match first_wrong(
         alloc,
         draft,
         table,
         names,
         rows.as_slice(),
         ranks.as_slice(),
-    )
+    )? {
+        Some(number) => Ok(Ranked::Wrong(number)),
+        None => Ok(Ranked::Right(ranks)),
+    }
 }

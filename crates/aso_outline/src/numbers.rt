@@ -7,10 +7,11 @@ use crate::seat::{DimRef, Seat};
 use crate::tables::{AttrTable, DimTable, TreeTable};
 
 impl Outline {
-    ghost use Rattle.std.specs.Prelude.{◌≡◌, ◌<◌, length, not};
+    ghost use Rattle.std.specs.Prelude.{◌≡◌, ◌<◌, ◌≤◌, length, not};
     ghost use Rattle.aso_outline.specs.Classes.{is_stored};
     ghost use Rattle.aso_outline.specs.Members.{dim_at, resolve, seats};
     ghost use Rattle.aso_outline.specs.Numbers.{IsDim, IsNumberOf, IsSeat, dim_ref, hier_of, root_of, seat_of};
+    ghost use Rattle.aso_outline.specs.Ranks.{rank_of};
     ghost use Rattle.aso_outline.specs.Rules.{name_at};
     ghost use Rattle.aso_outline.specs.Tables.{IsAttrTable, IsDimTable, IsTreeTable};
 
@@ -166,5 +167,20 @@ impl Outline {
         ensures { result ≡ is_stored self.now (seat_of self.now m) }
     {
         !is_computed(self.sound_draft(), self.seat(m))
+    }
+
+    /// The rank of a member: 0 for a stored one, that of what it stands for for a label-only one, and for another one more than the
+    /// greatest rank of those that its value needs. The laws of ranks are those of `keeps_ranks`.
+    pub fn rank(&self, m: u32) -> u32
+        requires { m < length (seats self.now) }
+        ensures value { result ≡ rank_of self.now m }
+        ensures bound { result ≤ 64 }
+    {
+        self.keeps_ranks();
+        let tables = self.tables();
+        match tables.ranks[m as usize] {
+            Some(rank) => rank,
+            None => unreachable!(),
+        }
     }
 }

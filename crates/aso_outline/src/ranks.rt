@@ -1,12 +1,11 @@
-// Ranks, turn by turn: a member has one within a turn more than those that it needs.
-ghost use Rattle.std.specs.Prelude.{◌≡◌, ◌<◌, ◌≤◌, ◌+◌, ◌^◌, ℕ, suc, List, Option, None, Some, max, true, length, map, slice_index_or, IfOk, IfSome};
-ghost use Rattle.aso_tree.specs.Trees.{places_of};
-ghost use Rattle.aso_outline.specs.Graph.{AreRows, rank_in};
-ghost use Rattle.aso_outline.specs.Members.{seats};
-ghost use Rattle.aso_outline.specs.Ranks.{greatest_rank, rank, rank_from, rank_within};
+// Ranks: a member's follows once all that it needs have theirs, so needs are followed down first.
+ghost use Rattle.std.specs.Prelude.{◌≡◌, ◌<◌, ◌+◌, ◌^◌, ℕ, suc, List, Option, None, Some, max, true, length, map, IfOk, IfSome, OnOk};
+ghost use Rattle.aso_outline.specs.Graph.{AreKnown, AreRanks, AreRows, HasTurns, IsClosed, rank_after, rank_in};
+ghost use Rattle.aso_outline.specs.Ranks.{greatest_rank, rank, rank_from};
 
 use crate::draft::Draft;
 use crate::row::{Row, Standing};
+use crate::walk::{Step, Walk};
 use aso_num::NoMemory;
 use std::alloc::Global;
 
@@ -40,7 +39,7 @@ fn greatest(ranks: &[Option<u32>], needs: &[usize]) -> Option<u32>
 }
 
 fn rank_from(standing: Standing, below: Option<u32>) -> Option<u32>
-    requires { IfSome below (λ r. r + 1 < 2 ^ 32) }
+    requires { IfSome (rank_from standing below) (λ r. r < 2 ^ 32) }
     ensures { result ≡ rank_from standing below }
 {
     match standing {
@@ -53,105 +52,138 @@ fn rank_from(standing: Standing, below: Option<u32>) -> Option<u32>
     }
 }
 
-/// The rank of a member within one turn more than the table has.
-fn next_rank(
-    _draft: &Draft,
-    rows: &[Row],
-    ranks: &[Option<u32>],
-    turn: u32,
-    number: u32,
-) -> Option<u32>
+/// The rank of a member, where the table has those that it needs.
+fn rank_after(_draft: &Draft, rows: &[Row], ranks: &[Option<u32>], number: usize) -> Option<u32>
     requires rows { AreRows _draft.now rows.now }
-    requires ranks { ranks.now ≡ map (rank_within turn _draft.now) (places_of (seats _draft.now)) }
-    requires few { turn + 1 < 2 ^ 32 }
+    requires known { AreKnown _draft.now ranks.now }
+    requires short { length rows.now < 2 ^ 32 }
     requires within { number < length rows.now }
-    ensures { result ≡ rank_within (suc turn) _draft.now number }
+    ensures value { result ≡ rank_after _draft.now ranks.now number }
+    ensures right { (r : ℕ) → result ≡ Some r → rank _draft.now number ≡ Some r }
 {
-    let row = &rows[number as usize];
+    let row = &rows[number];
     rank_from(row.standing, greatest(ranks, row.needs.as_slice()))
 }
 
-fn next_ranks(
+/// Writes the rank of a member into the table, where it follows from the others.
+fn settle(draft: &Draft, rows: &[Row], ranks: &mut Vec<Option<u32>>, number: usize)
+    requires rows { AreRows draft.now rows.now }
+    requires known { AreKnown draft.now ranks.old.items }
+    requires short { length rows.now < 2 ^ 32 }
+    requires within { number < length rows.now }
+    ensures known { AreKnown draft.now ranks.new.items }
+    ensures kept { (k r : ℕ) → rank_in ranks.old.items k ≡ Some r → rank_in ranks.new.items k ≡ Some r }
+    ensures found { (r : ℕ) → rank_after draft.now ranks.old.items number ≡ Some r → rank_in ranks.new.items number ≡ Some r }
+{
+    let rank = rank_after(draft, rows, ranks.as_slice(), number);
+    if rank.is_some() {
+        ranks[number] = rank;
+    }
+}
+
+/// Takes one step down the needs. A member whose needs were all gone down to is settled.
+fn take_step(
+    draft: &Draft,
+    rows: &[Row],
+    ranks: &mut Vec<Option<u32>>,
+    walk: &mut Walk,
+    step: Step,
+) -> Result<(), NoMemory>
+    requires rows { AreRows draft.now rows.now }
+    requires known { AreKnown draft.now ranks.old.items }
+    requires short { length rows.now < 2 ^ 32 }
+    ensures known { OnOk result (AreKnown draft.now ranks.new.items) }
+{
+    if !walk.is_entered(step) {
+        return Ok(());
+    }
+    if let Some(row) = rows.get(step.member) {
+        match row.needs.get(step.next) {
+            Some(need) => walk.go_down(step, *need)?,
+            None => settle(draft, rows, ranks, step.member),
+        }
+    }
+    Ok(())
+}
+
+/// Settles each member after those that it needs, so far as it leads to no circle.
+fn settle_down(
     alloc: Global,
     draft: &Draft,
     rows: &[Row],
-    ranks: &[Option<u32>],
-    turn: u32,
-) -> Result<Vec<Option<u32>>, NoMemory>
+    ranks: &mut Vec<Option<u32>>,
+) -> Result<(), NoMemory>
     requires rows { AreRows draft.now rows.now }
-    requires ranks { ranks.now ≡ map (rank_within turn draft.now) (places_of (seats draft.now)) }
-    requires few { turn + 1 < 2 ^ 32 }
+    requires known { AreKnown draft.now ranks.old.items }
     requires short { length rows.now < 2 ^ 32 }
-    ensures { IfOk result (λ v. v.items ≡ map (rank_within (suc turn) draft.now) (places_of (seats draft.now))) }
+    ensures known { OnOk result (AreKnown draft.now ranks.new.items) }
 {
-    let mut next = Vec::new(alloc);
-    for number in 0..rows.len() as u32 {
-        next.push(next_rank(draft, rows, ranks, turn, number))?;
+    let mut walk = Walk::new(alloc, rows.len())?;
+    for _step in 0..Walk::steps(rows) {
+        match walk.next() {
+            Some(step) => take_step(draft, rows, ranks, &mut walk, step)?,
+            None => return Ok(()),
+        }
     }
-    Ok(next)
+    Ok(())
 }
 
-/// Within no turn a stored member has its rank.
-fn first_rank(_draft: &Draft, rows: &[Row], number: u32) -> Option<u32>
-    requires rows { AreRows _draft.now rows.now }
-    requires within { number < length rows.now }
-    ensures { result ≡ rank_within 0 _draft.now number }
-{
-    let row = &rows[number as usize];
-    rank_from(row.standing, None)
-}
-
-fn first_ranks(alloc: Global, draft: &Draft, rows: &[Row]) -> Result<Vec<Option<u32>>, NoMemory>
+/// No further rank follows from the table.
+fn is_closed(draft: &Draft, rows: &[Row], ranks: &[Option<u32>]) -> bool
     requires rows { AreRows draft.now rows.now }
+    requires known { AreKnown draft.now ranks.now }
     requires short { length rows.now < 2 ^ 32 }
-    ensures { IfOk result (λ v. v.items ≡ map (rank_within 0 draft.now) (places_of (seats draft.now))) }
+    ensures { result ≡ true → IsClosed draft.now ranks.now }
 {
-    let mut ranks = Vec::new(alloc);
-    for number in 0..rows.len() as u32 {
-        ranks.push(first_rank(draft, rows, number))?;
-    }
-    Ok(ranks)
-}
-
-fn same_rank(a: Option<u32>, b: Option<u32>) -> bool
-    ensures { result ≡ true → a ≡ b }
-{
-    match a {
-        Some(a) => match b {
-            Some(b) => a == b,
-            None => false,
-        },
-        None => b.is_none(),
-    }
-}
-
-fn are_same(a: &[Option<u32>], b: &[Option<u32>]) -> bool
-    requires { length a.now ≡ length b.now }
-    ensures { result ≡ true → (k : ℕ) → k < length a.now → slice_index_or a.now k None ≡ slice_index_or b.now k None }
-{
-    for at in 0..a.len() {
-        if !same_rank(a[at], b[at]) {
+    for number in 0..rows.len() {
+        if rank_in(ranks, number).is_none() && rank_after(draft, rows, ranks, number).is_some() {
             return false;
         }
     }
     true
 }
 
-/// The rank of each member, in the order of the numbers; none for a member that leads to a circle of needs. A turn takes time in
-/// proportion to all needs, and there is one turn more than the longest chain of needs is long.
+/// One turn over all members.
+fn settle_all(draft: &Draft, rows: &[Row], ranks: &mut Vec<Option<u32>>, _turn: usize)
+    requires rows { AreRows draft.now rows.now }
+    requires known { AreKnown draft.now ranks.old.items }
+    requires short { length rows.now < 2 ^ 32 }
+    requires turns { HasTurns draft.now _turn ranks.old.items }
+    ensures known { AreKnown draft.now ranks.new.items }
+    ensures turns { HasTurns draft.now (_turn + 1) ranks.new.items }
+{
+    for number in 0..rows.len() {
+        settle(draft, rows, ranks, number);
+    }
+}
+
+/// No rank is known yet.
+fn unknown(alloc: Global, _draft: &Draft, rows: &[Row]) -> Result<Vec<Option<u32>>, NoMemory>
+    requires rows { AreRows _draft.now rows.now }
+    ensures { IfOk result (λ v. AreKnown _draft.now v.items) }
+{
+    let mut ranks = Vec::new(alloc);
+    for _member in 0..rows.len() {
+        ranks.push(None)?;
+    }
+    Ok(ranks)
+}
+
+/// The rank of each member, in the order of the numbers; none for a member that leads to a circle of needs. Needs are followed
+/// down once, which finds all ranks; that none is lacking is seen by one more pass, and turns over all members would follow.
 pub fn ranks(alloc: Global, draft: &Draft, rows: &[Row]) -> Result<Vec<Option<u32>>, NoMemory>
     requires rows { AreRows draft.now rows.now }
     requires short { length rows.now < 2 ^ 32 }
-    ensures { IfOk result (λ v. v.items ≡ map (rank draft.now) (places_of (seats draft.now))) }
+    ensures { IfOk result (λ v. AreRanks draft.now v.items) }
 {
-    let mut ranks = first_ranks(alloc, draft, rows)?;
-    for turn in 0..rows.len() as u32 {
-        let next = next_ranks(alloc, draft, rows, ranks.as_slice(), turn)?;
-        let is_done = are_same(next.as_slice(), ranks.as_slice());
+    let mut ranks = unknown(alloc, draft, rows)?;
+    settle_down(alloc, draft, rows, &mut ranks)?;
+    for turn in 0..rows.len() + 1 {
+        let is_done = is_closed(draft, rows, ranks.as_slice());
         if is_done {
             return Ok(ranks);
         }
-        ranks = next;
+        settle_all(draft, rows, &mut ranks, turn);
     }
     Ok(ranks)
 }

@@ -42,4 +42,6 @@ pub struct Tables {
     pub seats: Vec<Seat>,
     pub dims: Vec<DimTable>,
     pub attrs: Vec<AttrTable>,
+    /// The rank of each member number.
+    pub ranks: Vec<Option<u32>>,
 }

@@ -1,11 +1,11 @@
 -- Heights rise towards the root, and a leaf has height 0.
-use Rattle.std.proofs.Common.{◌≡◌, ◌∙◌, ℕ, zero, suc, ◌+◌, ◌-◌, ◌<◌, ◌≤◌, max, Bool, true, false, List, [], ◌∷◌, length, map, sym, ap, arith, ⊎_elim, ◌⊎◌, true≢false}
+use Rattle.std.proofs.Common.{◌≡◌, ◌∙◌, ℕ, zero, suc, ◌+◌, ◌-◌, ◌<◌, ◌≤◌, max, Bool, true, false, List, [], ◌∷◌, length, map, refl, sym, ap, arith, ⊎_elim, ◌⊎◌, true≢false}
 use Rattle.std.specs.Prelude.{slice_index}
 use Rattle.std.specs.List.{filter, range_with_len, fold}
 use Rattle.std.proofs.lemmas.Bool.{eqb-true}
 use Rattle.aso_tree.specs.Trees.{is_under, under, depth, height, is_leaf, greatest, IsTree}
 use Rattle.aso_tree.proofs.Paths.{depth_up}
-use Rattle.aso_tree.proofs.Preorder.{under_self, under_up, under_trans}
+use Rattle.aso_tree.proofs.Preorder.{under_cases, under_self, under_up, under_trans}
 use Rattle.aso_tree.proofs.Ends.{either, ends, span_of, leaf_of_span}
 
 base_le : (xs : List ℕ) (b : ℕ) → b ≤ fold max b xs
@@ -51,6 +51,34 @@ height_up parents i p is low within =
     bounded (λ x. depth parents x - depth parents i) (is_under parents i) (length parents) 0 0 (height parents p) (omega arith) (λ k lo hi below.
     let far : depth parents k - depth parents p ≤ height parents p = reached (λ x. depth parents x - depth parents p) (is_under parents p) (length parents) 0 0 k (omega arith) hi (under_trans k parents p i k (omega arith) at_parent below) in
     omega (arith, far, deeper))
+
+-- higher than its child
+pub height_above : (parents : List ℕ) (i p : ℕ) → p ≡ slice_index parents i → p < i → i < length parents → height parents i < height parents p
+height_above parents i p is low within =
+    let at_parent : is_under parents p i ≡ true = under_up parents p i (omega (arith, is, low)) (rw (← is) (under_self parents p)) in
+    let deeper : depth parents p + 1 ≡ depth parents i = depth_up parents i p is low in
+    let one : depth parents i - depth parents p ≤ height parents p = reached (λ x. depth parents x - depth parents p) (is_under parents p) (length parents) 0 0 i (omega arith) (omega (arith, within)) at_parent in
+    let most : height parents i ≤ height parents p - 1 =
+    bounded (λ x. depth parents x - depth parents i) (is_under parents i) (length parents) 0 0 (height parents p - 1) (omega arith) (λ k lo hi below.
+    let far : depth parents k - depth parents p ≤ height parents p = reached (λ x. depth parents x - depth parents p) (is_under parents p) (length parents) 0 0 k (omega arith) hi (under_trans k parents p i k (omega arith) at_parent below) in
+    omega (arith, far, deeper, one)) in
+    omega (arith, most, one, deeper)
+
+-- no lower than what lies below it
+pub height_under : (n : ℕ) (parents : List ℕ) (top i : ℕ) → i ≤ n → i < length parents → is_under parents top i ≡ true → height parents i ≤ height parents top
+height_under zero parents top i le within h =
+    ⊎_elim
+    (λ (same : i ≡ top). let is : height parents i ≡ height parents top = ap (height parents) same in omega (arith, is))
+    (λ (up : (slice_index parents i < i) × (is_under parents top (slice_index parents i) ≡ true)). absurd (omega (arith, le, up.0)))
+    (under_cases parents top i h)
+height_under (suc n) parents top i le within h =
+    ⊎_elim
+    (λ (same : i ≡ top). let is : height parents i ≡ height parents top = ap (height parents) same in omega (arith, is))
+    (λ (up : (slice_index parents i < i) × (is_under parents top (slice_index parents i) ≡ true)).
+    let here : height parents i ≤ height parents (slice_index parents i) = height_up parents i (slice_index parents i) refl up.0 within in
+    let rest : height parents (slice_index parents i) ≤ height parents top = height_under n parents top (slice_index parents i) (omega (arith, le, up.0)) (omega (arith, up.0, within)) up.1 in
+    omega (arith, here, rest))
+    (under_cases parents top i h)
 
 pub leaf_height : (parents : List ℕ) → IsTree parents → (i : ℕ) → i < length parents → is_leaf parents i ≡ true → height parents i ≡ 0
 leaf_height parents tree i within leaf =

@@ -2,7 +2,7 @@
 ghost use Rattle.std.specs.Prelude.{◌≡◌, ◌<◌, ◌≤◌, ◌+◌, ◌^◌, length, map, true, IfOk, Some};
 ghost use Rattle.std.specs.List.{filter, range_with_len};
 ghost use Rattle.aso_tree.specs.Trees.{class_count, class_number, class_of, height, is_leaf, places_of, IsTree};
-ghost use Rattle.aso_tree.specs.Levels.{AreLevels, is_class};
+ghost use Rattle.aso_tree.specs.Levels.{AreLevels, IsOpen, classes_before, is_class};
 
 use aso_memory::NoMemory;
 use std::alloc::Global;
@@ -130,4 +130,41 @@ pub fn class_count(parents: &[u32], levels: &[Level], level: u32) -> u32
     ensures { result ≡ class_count parents.now level }
 {
     levels[level as usize].count
+}
+
+/// How many classes of a level stand before a place, where the node there lies below none: the number of the next class, to which
+/// one goes down from there.
+pub fn classes_before(
+    parents: &[u32],
+    heights: &[u32],
+    levels: &[Level],
+    level: u32,
+    place: u32,
+) -> u32
+    requires short { length parents.now < 2 ^ 32 }
+    requires tree { IsTree parents.now }
+    requires heights { heights.now ≡ map (height parents.now) (places_of parents.now) }
+    requires known { AreLevels parents.now (height parents.now 0 + 1) levels.now }
+    requires level { level ≤ height parents.now 0 }
+    requires within { place ≤ length parents.now }
+    requires outside { IsOpen parents.now level place }
+    ensures { result ≡ classes_before parents.now level place }
+{
+    for node in place..parents.len() as u32 {
+        if height_at(parents, heights, node) <= level {
+            return number_at(parents, levels, level, node);
+        }
+    }
+    class_count(parents, levels, level)
+}
+
+/// The number of a node's class, from the tables of the levels; 0 where it has none.
+fn number_at(parents: &[u32], levels: &[Level], level: u32, node: u32) -> u32
+    requires known { AreLevels parents.now (height parents.now 0 + 1) levels.now }
+    requires within { node < length parents.now }
+    requires level { level ≤ height parents.now 0 }
+    ensures { result ≡ class_number parents.now level node }
+{
+    let row = levels[level as usize].numbers.as_slice();
+    row[node as usize]
 }

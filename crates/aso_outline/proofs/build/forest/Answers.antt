@@ -1,5 +1,4 @@
 use Rattle.std.proofs.Common.{◌∙◌}
-use Rattle.aso_tree.specs.Faults.{Answers}
 use Rattle.aso_outline.specs.Members.{parents_of}
 use Rattle.aso_outline.proofs.TableLemmas.{no_fault}
 use Rattle.aso_outline.proofs.build.forest.Goals as goal

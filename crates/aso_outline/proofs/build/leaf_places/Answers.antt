@@ -1,4 +1,4 @@
-use Rattle.std.proofs.Common.{◌≡◌, ◌∙◌, ◌++◌, ◌∷◌, [], Bool, List, ℕ, cond, sym, ap}
+use Rattle.std.proofs.Common.{◌∙◌, ◌++◌, ◌∷◌, [], Bool, List, ℕ, cond, sym, ap}
 use Rattle.std.specs.List.{filter, range_with_len}
 use Rattle.aso_outline.specs.Leaves.{is_data_place}
 use Rattle.aso_outline.proofs.TableLemmas.{filter_more}

@@ -1,6 +1,6 @@
 use Rattle.std.specs.Prelude.{if◌then◌else◌}
 use Rattle.std.specs.HashMap.{get_by_text}
-use Rattle.std.proofs.Common.{◌≡◌, ◌∙◌, ℕ, List, Option, None, ap, map}
+use Rattle.std.proofs.Common.{◌∙◌, ℕ, List, Option, None, ap, map}
 use Rattle.aso_tree.specs.Trees.{places_of}
 use Rattle.aso_outline.specs.declared.draft.DraftMember.{DraftMember}
 use Rattle.aso_outline.specs.Classes.{shared_leaf}

@@ -1,5 +1,5 @@
-use Rattle.std.proofs.Common.{◌≡◌, ◌∙◌, ℕ, Bool, cond, max, not, sym, ap}
-use Rattle.aso_tree.specs.Trees.{greatest, height}
+use Rattle.std.proofs.Common.{◌∙◌, ℕ, Bool, cond, max, not, sym, ap}
+use Rattle.aso_tree.specs.Trees.{height}
 use Rattle.aso_outline.specs.Members.{member_is, parents_of}
 use Rattle.aso_outline.proofs.TableLemmas.{greatest_more}
 use Rattle.aso_outline.proofs.build.top_height.Goals as goal

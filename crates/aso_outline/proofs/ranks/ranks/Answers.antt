@@ -1,25 +1,23 @@
-use Rattle.std.proofs.Common.{◌≡◌, ◌∙◌, ◌≤◌, suc, ℕ, List, Option, None, length, get_or, sym, ap, arith}
+use Rattle.std.proofs.Common.{◌<◌, length, arith, subst}
+use Rattle.aso_outline.specs.Graph.{IsClosed}
 use Rattle.aso_outline.specs.Members.{seats}
-use Rattle.aso_outline.specs.Ranks.{rank_within}
 use Rattle.aso_outline.proofs.GraphRows.{rows_long}
-use Rattle.aso_outline.proofs.RankTurns.{ranks_end, ranks_stay}
-use Rattle.aso_outline.proofs.Turns.{table_long}
+use Rattle.aso_outline.proofs.KnownRanks.{closed_right, turns_right}
 use Rattle.aso_outline.proofs.ranks.ranks.Goals as goal
+
+pub loop-turn-init : goal.loop-turn-init
+loop-turn-init c = record {
+  known = c.in_ok-settle_down.ensures.known;
+  turns = λ t k r low e. absurd (omega (arith, low));
+}
 
 pub returns-then-is_done : goal.returns-then-is_done
 returns-then-is_done c =
     let o = c.args.draft.now in
-    let t = c.loop-turn.turn in
-    let low : t ≤ length (seats o) = omega (arith, rows_long o c.args.rows.now c.requires.rows, c.loop-turn-test.true) in
-    let next : List (Option ℕ) = c.in_ok-next.next.items in
-    let here : c.as_slice-in-loop-turn.result.now ≡ next = c.as_slice-in-loop-turn.ensures.value in
-    let long : length c.as_slice-in-loop-turn.result.now ≡ length (seats o) = ap length here ∙ table_long (rank_within (suc c.loop-turn.turn) o) (length (seats o)) next c.in_ok-next.ensures in
-    ranks_stay o t c.loop-turn.ranks.items next low c.loop-turn.invariant c.in_ok-next.ensures
-    (λ k less. ap (λ (xs : List (Option ℕ)). get_or xs k None) (sym here)
-    ∙ (c.are_same-is_done.ensures c.if-is_done.true k (omega (arith, long, less)) ∙ ap (λ (xs : List (Option ℕ)). get_or xs k None) c.as_slice-in-loop-turn-2.ensures.value))
+    closed_right o c.loop-turn.ranks.items c.loop-turn.invariant.known (subst (IsClosed o) c.as_slice.ensures.value (c.is_closed-is_done.ensures c.if-is_done.true))
 
 pub returns : goal.returns
 returns c =
     let o = c.args.draft.now in
-    let all : c.loop-turn.turn ≡ length (seats o) = omega (arith, rows_long o c.args.rows.now c.requires.rows, c.loop-turn-test.false, c.loop-turn.auto.turn-end) in
-    ranks_end o c.loop-turn.turn c.loop-turn.ranks.items all c.loop-turn.invariant
+    let end : length (seats o) < c.loop-turn.turn = omega (arith, rows_long o c.args.rows.now c.requires.rows, c.loop-turn-test.false, c.loop-turn.auto.turn-end) in
+    turns_right o c.loop-turn.ranks.items c.loop-turn.invariant.known c.loop-turn.turn end c.loop-turn.invariant.turns

@@ -1,8 +1,8 @@
-use Rattle.std.proofs.Common.{◌≡◌, map}
-use Rattle.aso_tree.specs.Trees.{places_of}
-use Rattle.aso_outline.specs.Members.{seats}
-use Rattle.aso_outline.specs.Ranks.{rank_within}
+use Rattle.aso_outline.specs.Graph.{AreKnown, HasTurns}
 use Rattle.aso_outline.proofs.ranks.ranks.Given as goal
 
 abbrev pub invariant-loop-turn : goal.invariant-loop-turn
-invariant-loop-turn l = l.ranks.items ≡ map (rank_within l.turn l.draft) (places_of (seats l.draft))
+invariant-loop-turn l = record {
+  known : AreKnown l.draft l.ranks.items;
+  turns : HasTurns l.draft l.turn l.ranks.items;
+}

@@ -1,8 +1,6 @@
-use Rattle.std.specs.Prelude.{unwrap_or, if◌then◌else◌}
 use Rattle.std.specs.Option.{option_map}
-use Rattle.std.specs.HashMap.{get_by_text}
 use Rattle.std.specs.List.{filter, position, range_with_len}
-use Rattle.std.proofs.Common.{◌≡◌, ◌∙◌, ◌<◌, ◌&&◌, ℕ, List, Bool, Option, Some, None, ap, arith, cond, length, sym}
+use Rattle.std.proofs.Common.{◌∙◌, ◌<◌, ◌&&◌, ℕ, Bool, Option, Some, None, ap, arith, cond, length, sym}
 use Rattle.aso_tree.proofs.Positions.{first_of}
 use Rattle.aso_outline.specs.Leaves.{is_data_place, name_in}
 use Rattle.aso_outline.specs.Members.{Name, names_at, same_name}

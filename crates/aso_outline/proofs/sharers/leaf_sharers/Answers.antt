@@ -1,8 +1,8 @@
-use Rattle.std.specs.Prelude.{option_to_list, if◌then◌else◌}
+use Rattle.std.specs.Prelude.{option_to_list}
 use Rattle.std.specs.Option.{option_map}
 use Rattle.std.specs.HashMap.{get_by_text}
 use Rattle.std.specs.List.{filter, range_with_len}
-use Rattle.std.proofs.Common.{◌≡◌, ◌∙◌, ◌<◌, ◌++◌, ◌∷◌, [], ℕ, List, Bool, Option, ap, arith, cond, length, map, sym}
+use Rattle.std.proofs.Common.{◌∙◌, ◌<◌, ◌++◌, ◌∷◌, [], ℕ, List, Bool, Option, ap, arith, cond, length, map, sym}
 use Rattle.std.proofs.lemmas.List.{map-append}
 use Rattle.aso_outline.specs.Leaves.{is_data_place, name_in}
 use Rattle.aso_outline.specs.Members.{Name, names_at}

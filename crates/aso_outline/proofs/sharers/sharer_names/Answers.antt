@@ -1,11 +1,10 @@
-use Rattle.std.specs.Prelude.{unwrap_or, if◌then◌else◌}
 use Rattle.std.specs.Option.{option_map}
 use Rattle.std.specs.List.{position}
-use Rattle.std.proofs.Common.{◌≡◌, ◌∙◌, ◌<◌, ◌≤◌, ◌&&◌, ℕ, List, Bool, Option, Some, None, ap, arith, cond, length, sym, take}
+use Rattle.std.proofs.Common.{◌∙◌, ◌<◌, ◌≤◌, ℕ, Bool, Option, Some, None, ap, arith, cond, length, sym, take}
 use Rattle.std.proofs.lemmas.List.{take_all}
 use Rattle.aso_tree.proofs.Positions.{first_of}
 use Rattle.aso_outline.specs.Leaves.{name_in}
-use Rattle.aso_outline.specs.Members.{Name, member_is, same_name}
+use Rattle.aso_outline.specs.Members.{Name, member_is}
 use Rattle.aso_outline.specs.Rules.{same_own, shares}
 use Rattle.aso_outline.proofs.LeafNames.{own_if, sharer_found}
 use Rattle.aso_outline.proofs.sharers.sharer_names.Goals as goal

@@ -1,9 +1,8 @@
-use Rattle.std.proofs.Common.{◌≡◌, ◌∙◌, ◌+◌, ℕ, ap, arith, length, map, max, sym}
+use Rattle.std.proofs.Common.{◌∙◌, ℕ, ap, arith, map, max, sym}
 use Rattle.std.specs.List.{range_with_len}
 use Rattle.aso_tree.specs.Trees.{greatest}
 use Rattle.aso_tree.proofs.Paths.{greatest_push}
 use Rattle.aso_outline.specs.Heights.{root_height}
-use Rattle.aso_outline.specs.Members.{dim_at}
 use Rattle.aso_outline.proofs.outline.Outline.greatest_root.Goals as goal
 
 pub loop-hier-preserved : goal.loop-hier-preserved

@@ -1,7 +1,6 @@
-use Rattle.std.proofs.Common.{◌∙◌, List, ℕ, ap, sym}
-use Rattle.std.specs.Prelude.{slice_index}
+use Rattle.std.proofs.Common.{◌∙◌, List, ap, sym}
 use Rattle.aso_outline.specs.declared.draft.DraftMember.{DraftMember}
-use Rattle.aso_outline.specs.Members.{data_leaves, dim_at, has_under, tree}
+use Rattle.aso_outline.specs.Members.{dim_at, has_under, tree}
 use Rattle.aso_outline.proofs.HoldLemmas.{held_by_name}
 use Rattle.aso_outline.proofs.outline.Outline.holds_by_name.Goals as goal
 

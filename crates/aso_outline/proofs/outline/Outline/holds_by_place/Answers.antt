@@ -1,4 +1,4 @@
-use Rattle.std.proofs.Common.{◌≡◌, ◌∙◌, ◌<◌, ◌≤◌, List, Option, ℕ, false, ap, arith, length, sym}
+use Rattle.std.proofs.Common.{◌∙◌, ◌≤◌, List, Option, ℕ, false, ap, arith, length, sym}
 use Rattle.std.specs.Prelude.{unwrap_or}
 use Rattle.std.specs.Option.{option_map}
 use Rattle.aso_tree.specs.Trees.{is_under}

@@ -1,9 +1,8 @@
-use Rattle.std.specs.Prelude.{slice_get, unwrap_or}
-use Rattle.std.specs.Option.{option_map, option_and_then}
-use Rattle.std.proofs.Common.{◌≡◌, ◌∙◌, ◌<◌, Option, ℕ, Some, ap, length, sym}
+use Rattle.std.specs.Prelude.{slice_get}
+use Rattle.std.specs.Option.{option_and_then}
+use Rattle.std.proofs.Common.{◌∙◌, ◌<◌, ℕ, Some, ap, length, sym}
 use Rattle.aso_outline.specs.declared.seat.Seat.{Seat}
-use Rattle.aso_outline.specs.Members.{find, seats}
-use Rattle.aso_outline.specs.Numbers.{seat_of}
+use Rattle.aso_outline.specs.Members.{seats}
 use Rattle.aso_outline.proofs.ByName.{named_by_number}
 use Rattle.aso_outline.proofs.FoundNames.{number_within, seat_there}
 use Rattle.aso_outline.proofs.outline.Outline.named.Goals as goal

@@ -1,6 +1,6 @@
 use Rattle.std.proofs.Common.{ap, arith, length}
 use Rattle.aso_outline.proofs.GraphRows.{rows_long}
-use Rattle.aso_outline.proofs.formulas.least_wrong_formula.Goals as goal
+use Rattle.aso_outline.proofs.formulas.rank_members.Goals as goal
 
 pub ranks-requires-clause-short : goal.ranks-requires-clause-short
 ranks-requires-clause-short c =
