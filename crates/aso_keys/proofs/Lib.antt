@@ -3,3 +3,5 @@ pub mod LayoutLemmas
 pub mod BuildLemmas
 pub mod ViewLemmas
 pub mod MakingLemmas
+pub mod CoarserLemmas
+pub mod WidthLemmas

@@ -55,3 +55,19 @@ IsChoice o d x = ((x.0 ≡ 0) × (x.1 ≡ 0)) ⊎ ((x.0 < length (dim_at o d).hi
 pub record IsView (o : Draft) (xs : List Choice) : Type 0 where
   pub long : length xs ≡ length o.dims
   pub choice : (d : ℕ) → d < length o.dims → IsChoice o d (choice_at xs d)
+
+-- of a dimension: the finer is at level 0, or both are in one hierarchy and the coarser at no lower a level
+abbrev pub IsCoarserChoice : Choice → Choice → Type 0
+IsCoarserChoice coarse fine = (fine.1 ≡ 0) ⊎ ((coarse.0 ≡ fine.0) × (fine.1 ≤ coarse.1))
+
+-- a view that is coarser at each dimension, or the same
+abbrev pub IsCoarserView : List Choice → List Choice → Type 0
+IsCoarserView [] [] = Unit {0}
+IsCoarserView [] (v ∷ vs) = ⊥
+IsCoarserView (w ∷ ws) [] = ⊥
+IsCoarserView (w ∷ ws) (v ∷ vs) = IsCoarserChoice w v × IsCoarserView ws vs
+
+-- level 0 of each dimension
+abbrev pub IsBase : List Choice → Type 0
+IsBase [] = Unit {0}
+IsBase (x ∷ xs) = (x.1 ≡ 0) × IsBase xs

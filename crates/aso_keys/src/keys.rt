@@ -1,9 +1,22 @@
 // Keys of dimensions at a view.
-ghost use Rattle.std.specs.Prelude.{◌≡◌, ℕ, ◌+◌, ◌*◌, ◌<◌, ◌≤◌, List, length};
+ghost use Rattle.std.specs.Prelude.{◌≡◌, ◌↔◌, ℕ, ◌+◌, ◌*◌, ◌<◌, ◌≤◌, List, length, IsTrue};
 ghost use Rattle.aso_keys.specs.Axes.{bits_of, AreClasses, key_of, fields_of, AreCoarser, ArePlaced, rolled, rolled_class};
 
 use crate::axis::Axis;
 use aso_words::Words;
+
+// One class of each dimension.
+pub fn are_classes(axes: &[Axis], classes: &[u32]) -> bool
+    ensures { IsTrue result ↔ AreClasses axes.now classes.now }
+{
+    let [axis, axes @ ..] = axes else {
+        return classes.is_empty();
+    };
+    let [class, classes @ ..] = classes else {
+        return false;
+    };
+    *class < axis.count && are_classes(axes, classes)
+}
 
 // The key that the classes write.
 pub fn key_in<const W: usize>(axes: &[Axis], classes: &[u32]) -> Words<W>

@@ -1,11 +1,11 @@
-ghost use Rattle.std.specs.Prelude.{◌≡◌, ◌≢◌, ℕ, ◌*◌, ◌<◌, ◌≤◌, ◌^◌, List, length, Some, None};
+ghost use Rattle.std.specs.Prelude.{◌≡◌, ◌≢◌, ◌↔◌, ℕ, ◌*◌, ◌<◌, ◌≤◌, ◌^◌, List, length, Some, None, IsTrue};
 ghost use Rattle.std.specs.Option.{option_map};
 ghost use Rattle.std.specs.Ordering.{nat_cmp};
 ghost use Rattle.std.specs.Cmp.Lexicographic.{slice_cmp};
 ghost use Rattle.aso_keys.specs.Axes.{bits_of, AreClasses, key_of, fields_of, classes_of, AreCoarser};
 
 use crate::axis::Axis;
-use crate::keys::{fields_in, key_in, roll_in};
+use crate::keys::{are_classes, fields_in, key_in, roll_in};
 use crate::making::dim_axis;
 use aso_memory::NoMemory;
 use aso_num::List;
@@ -38,7 +38,7 @@ impl Layout {
     ghost use Rattle.std.specs.Prelude.{IfOk};
     ghost use Rattle.aso_keys.specs.Axes.{ArePlaced};
     ghost use Rattle.aso_keys.specs.Layouts.{IsLayout};
-    ghost use Rattle.aso_keys.specs.Views.{IsView};
+    ghost use Rattle.aso_keys.specs.Views.{IsBase, IsView, IsCoarserView};
 
     /// The layout of a view: for each dimension level 0, or a level of a stored hierarchy from 1 to its top. Shifts, widths
     /// and the tables of classes are made here, in time and memory in proportion to the data leaves and classes.
@@ -67,6 +67,39 @@ impl Layout {
         ensures { ArePlaced self.now }
     {
         let _axes = &self.axes;
+    }
+
+    /// The layout of a coarser view is coarser, so keys can be rolled up to it.
+    pub fn keeps_coarser(&self, outline: &Outline, view: &View, to: &Layout, coarser: &View)
+        requires view { IsView outline.now view.now.choices }
+        requires own { IsLayout outline.now view.now.choices self.now }
+        requires other { IsLayout outline.now coarser.now.choices to.now }
+        requires coarser { IsCoarserView coarser.now.choices view.now.choices }
+        ensures { AreCoarser to.now self.now }
+    {}
+
+    /// The keys of data leaves have at most 128 bits.
+    pub fn keeps_bits(&self, outline: &Outline, view: &View)
+        requires own { IsLayout outline.now view.now.choices self.now }
+        requires base { IsBase view.now.choices }
+        ensures { bits_of self.now ≤ 128 }
+    {
+        outline.keeps();
+        let _axes = &self.axes;
+    }
+
+    /// How many dimensions it has.
+    pub fn dims(&self) -> usize
+        ensures { result ≡ length self.now }
+    {
+        self.axes.items().len()
+    }
+
+    /// Whether the list has one class of each dimension.
+    pub fn are_classes(&self, classes: &[u32]) -> bool
+        ensures { IsTrue result ↔ AreClasses self.now classes.now }
+    {
+        are_classes(self.axes.items(), classes)
     }
 
     /// How many bits a key has.

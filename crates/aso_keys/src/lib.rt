@@ -10,4 +10,4 @@ mod views;
 
 pub use aso_outline::View;
 pub use layout::Layout;
-pub use views::view_of;
+pub use views::{is_coarser, view_of};

@@ -1,9 +1,9 @@
-ghost use Rattle.std.specs.Prelude.{◌≡◌, ℕ, ◌+◌, ◌*◌, ◌<◌, ◌≤◌, ◌⊎◌, ◌++◌, List, length, map, replicate, IfOk, IfSome, IfNone, OnOk};
+ghost use Rattle.std.specs.Prelude.{◌≡◌, ◌↔◌, ℕ, ◌+◌, ◌*◌, ◌<◌, ◌≤◌, ◌⊎◌, ◌++◌, List, length, map, replicate, IfOk, IfSome, IfNone, IsTrue, OnOk};
 ghost use Rattle.aso_outline.specs.declared.seat.Seat.TheVariants.{Inner};
 ghost use Rattle.aso_outline.specs.Members.{dim_at, is_dynamic};
 ghost use Rattle.aso_outline.specs.Heights.{top_of};
 ghost use Rattle.aso_outline.specs.declared.draft.Aggregate.TheVariants.{All};
-ghost use Rattle.aso_keys.specs.Views.{levels, hier_choices, choices, all_choices, views, IsNumbered, IsView};
+ghost use Rattle.aso_keys.specs.Views.{levels, hier_choices, choices, all_choices, views, IsNumbered, IsBase, IsView, IsCoarserChoice, IsCoarserView};
 
 use aso_memory::NoMemory;
 use aso_num::List;
@@ -112,6 +112,7 @@ pub fn view_of(alloc: Global, outline: &Outline, number: u32) -> Result<Option<V
     ensures few { IfOk result (λ o. IfSome o (λ v. (number ≡ 0) ⊎ (views (all_choices outline.now) ≤ 4096))) }
     ensures none { IfOk result (λ o. IfNone o ((1 ≤ number) × ((4096 < views (all_choices outline.now)) ⊎ (views (all_choices outline.now) ≤ number)))) }
     ensures view { IfOk result (λ o. IfSome o (λ v. IsView outline.now v.choices)) }
+    ensures base { number ≡ 0 → IfOk result (λ o. IfSome o (λ v. IsBase v.choices)) }
 {
     if number == 0 {
         let base = base(alloc, outline)?;
@@ -138,4 +139,31 @@ pub fn view_of(alloc: Global, outline: &Outline, number: u32) -> Result<Option<V
     Ok(Some(View {
         choices: List::of(choices),
     }))
+}
+
+// Whether a choice is coarser than another, or the same.
+fn is_coarser_choice(coarse: (u32, u32), fine: (u32, u32)) -> bool
+    ensures { IsTrue result ↔ IsCoarserChoice coarse fine }
+{
+    fine.1 == 0 || (coarse.0 == fine.0 && fine.1 <= coarse.1)
+}
+
+fn are_coarser(coarse: &[(u32, u32)], fine: &[(u32, u32)]) -> bool
+    ensures { IsTrue result ↔ IsCoarserView coarse.now fine.now }
+{
+    let [choice, coarse @ ..] = coarse else {
+        return fine.is_empty();
+    };
+    let [other, fine @ ..] = fine else {
+        return false;
+    };
+    is_coarser_choice(*choice, *other) && are_coarser(coarse, fine)
+}
+
+/// Whether a view is coarser than another, or the same: of each dimension the finer is at level 0, or both are in one
+/// hierarchy and the coarser at no lower a level.
+pub fn is_coarser(coarse: &View, fine: &View) -> bool
+    ensures { IsTrue result ↔ IsCoarserView coarse.now.choices fine.now.choices }
+{
+    are_coarser(coarse.choices.items(), fine.choices.items())
 }

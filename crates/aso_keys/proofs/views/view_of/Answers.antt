@@ -1,7 +1,8 @@
-use Rattle.std.proofs.Common.{rules, arith, ◌≡◌, ◌≤◌, ◌<◌, ◌+◌, ◌-◌, ◌*◌, ◌/◌, ◌∙◌, inl, inr, ℕ, reverse, sym, subst}
+use Rattle.std.proofs.Common.{rules, arith, ◌≡◌, ◌≤◌, ◌<◌, ◌+◌, ◌-◌, ◌*◌, ◌/◌, ◌∙◌, inl, inr, ℕ, length, reverse, sym, subst}
 use Rattle.std.proofs.lemmas.Bool.Decides.{nat_tests}
 use Rattle.aso_keys.specs.Views.{all_choices, IsNumbered}
 use Rattle.aso_keys.proofs.ViewLemmas.{numbering_first, numbering_step, numbering_all, numbered_all, numbered_view, base_numbered, past_all, too_many}
+use Rattle.aso_keys.proofs.WidthLemmas.{based}
 use Rattle.aso_keys.proofs.views.view_of.Goals as goal
 
 pub returns-then-number-eq0-clause-given : goal.returns-then-number-eq0-clause-given
@@ -12,6 +13,9 @@ returns-then-number-eq0-clause-given c =
 pub returns-then-number-eq0-clause-view : goal.returns-then-number-eq0-clause-view
 returns-then-number-eq0-clause-view c =
     numbered_view c.args.outline.now 0 c.in_ok-base.base.choices (base_numbered c.args.outline.now c.in_ok-base.base.choices c.in_ok-base.ensures)
+
+pub returns-then-number-eq0-clause-base : goal.returns-then-number-eq0-clause-base
+returns-then-number-eq0-clause-base c = λ zero. based (length c.args.outline.now.dims) c.in_ok-base.base.choices c.in_ok-base.ensures
 
 pub loop-back-init : goal.loop-back-init
 loop-back-init c = record {
