@@ -1,0 +1,10 @@
+//! Cell files: cells with rising keys in blocks of 4096, written once and read block by block over a shelf.
+#![tactic(auto)]
+
+mod block;
+mod fault;
+mod steps;
+
+pub use block::decode;
+pub use fault::{BlockFault, OpenFault, WriteFault};
+pub use steps::Steps;
