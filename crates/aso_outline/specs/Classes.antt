@@ -1,14 +1,14 @@
 -- Data leaves by their ordinals, and their classes.
-use Rattle.std.specs.Prelude.{ℕ, zero, suc, ◌==◌, Bool, false, not, ◌&&◌, List, [], length, Option, Some, None, if◌then◌else◌, slice_get, slice_index, unwrap_or}
+use Rattle.std.specs.Prelude.{ℕ, zero, suc, ◌==◌, ◌||◌, nat_le, nat_lt, Bool, false, not, ◌&&◌, List, [], length, Option, Some, None, if◌then◌else◌, slice_get, slice_index, unwrap_or}
 use Rattle.std.specs.Option.{option_map, option_and_then}
 use Rattle.std.specs.List.{list_any, position}
-use Rattle.aso_tree.specs.Trees.{class_count, class_of, is_under}
+use Rattle.aso_tree.specs.Trees.{class_count, class_of, height, is_under}
 use Rattle.aso_outline.specs.declared.draft.Draft.{Draft}
 use Rattle.aso_outline.specs.declared.draft.DraftMember.{DraftMember}
 use Rattle.aso_outline.specs.declared.seat.Seat.{Seat}
 use Rattle.aso_outline.specs.declared.seat.Seat.TheVariants.{Inner, Carried}
 use Rattle.aso_outline.specs.Leaves.{ordinal_in}
-use Rattle.aso_outline.specs.Members.{Name, attr_tree, data_leaves, dim_at, has_under, is_computed, leaf_names, member_at, parents_of, same_name, tree}
+use Rattle.aso_outline.specs.Members.{Name, attr_tree, data_leaves, dim_at, has_under, is_computed, is_dynamic, leaf_names, member_at, parents_of, same_name, tree}
 use Rattle.aso_outline.specs.Ranks.{named}
 use Rattle.aso_outline.specs.Rules.{is_shared, name_at, shares}
 
@@ -68,6 +68,17 @@ classes_at o d h (suc level) = class_count (parents_of (tree (dim_at o d) h)) (s
 -- the data leaf lies at or below a place of a hierarchy
 abbrev pub holds_place : Draft → ℕ → ℕ → ℕ → ℕ → Bool
 holds_place o d h i leaf = unwrap_or (option_map (has_under (tree (dim_at o d) h) i) (slice_get (leaf_names (dim_at o d)) leaf)) false
+
+-- The classes of a level that a member holds stand in a row. Above level 0 the member stands in a stored hierarchy, at least as
+-- high as the level; at level 0 it stands in the first hierarchy, or is a shared member, which counts as its data leaf.
+abbrev pub has_range : Draft → Seat → ℕ → Bool
+has_range o (Inner d h i) zero = h == 0 || is_shared o (Inner d h i)
+has_range o (Inner d h i) (suc level) = nat_le (suc level) (height (parents_of (tree (dim_at o d) h)) i) && not (is_dynamic o (Inner d h i))
+has_range o s level = false
+
+-- the number is in the range
+abbrev pub is_in : ℕ × ℕ → ℕ → Bool
+is_in range n = nat_le range.0 n && nat_lt n range.1
 
 -- ---- attributes
 

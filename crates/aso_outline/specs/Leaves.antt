@@ -14,6 +14,10 @@ is_data_place ms i = is_leaf (parents_of ms) i && member_is (λ m. is_none m.for
 abbrev pub ordinal_in : List DraftMember → ℕ → Option ℕ
 ordinal_in ms i = if is_data_place ms i then Some (length (filter (is_data_place ms) (range_with_len 0 i))) else None
 
+-- how many data leaves stand before a place
+abbrev pub leaves_before : List DraftMember → ℕ → ℕ
+leaves_before ms i = length (filter (is_data_place ms) (range_with_len 0 i))
+
 -- the name at a place
 abbrev pub name_in : List DraftMember → ℕ → Name
 name_in ms i = unwrap_or (option_map (λ (m : DraftMember). m.name) (slice_get ms i)) []

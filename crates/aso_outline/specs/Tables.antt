@@ -12,6 +12,7 @@ use Rattle.aso_outline.specs.declared.tables.TreeTable.{TreeTable}
 use Rattle.aso_outline.specs.Classes.{leaf_count, leaf_named, leaf_ordinal, shared_leaf, sharer_of}
 use Rattle.aso_outline.specs.Graph.{AreRanks}
 use Rattle.aso_outline.specs.Heights.{top_of}
+use Rattle.aso_outline.specs.Leaves.{leaves_before}
 use Rattle.aso_outline.specs.Members.{Name, attr_seats, attr_tree, data_leaves, dim_at, dim_seats, hier_seats, parents_of, seats, tree, whole_seats}
 
 -- how many members stand before a base dimension, before a hierarchy, and before an attribute dimension
@@ -44,6 +45,7 @@ pub record IsDimTable (o : Draft) (d : ℕ) (t : DimTable) : Type 0 where
   pub end : t.end ≡ before_dim o (d + 1)
   pub leaves : t.leaves.items ≡ data_leaves (dim_at o d)
   pub ordinals : t.ordinals.items ≡ map (leaf_ordinal o d) (places_of (tree (dim_at o d) 0))
+  pub counts : t.counts.items ≡ map (leaves_before (tree (dim_at o d) 0)) (range_with_len 0 (length (tree (dim_at o d) 0) + 1))
   pub trees : AreEach (IsTreeTable o d) (length (dim_at o d).hiers) t.trees.items
 
 pub record IsAttrTable (o : Draft) (a : ℕ) (t : AttrTable) : Type 0 where

@@ -5,7 +5,7 @@ ghost use Rattle.aso_tree.specs.Trees.{height, places_of, IsTree};
 ghost use Rattle.aso_outline.specs.Classes.{leaf_count, leaf_ordinal, shared_leaf, sharer_of};
 ghost use Rattle.aso_outline.specs.Graph.{AreRanks};
 ghost use Rattle.aso_outline.specs.Heights.{top_height};
-ghost use Rattle.aso_outline.specs.Leaves.{is_data_place, ordinal_in};
+ghost use Rattle.aso_outline.specs.Leaves.{is_data_place, leaves_before, ordinal_in};
 ghost use Rattle.aso_outline.specs.Members.{attr_tree, data_leaves, dim_at, member_is, parents_of, seats, tree, tree_of, whole_seats};
 ghost use Rattle.aso_outline.specs.Rules.{broken};
 ghost use Rattle.aso_outline.specs.Small.{HasTrees, IsSmall};
@@ -129,6 +129,23 @@ fn ordinals(alloc: Global, members: &[DraftMember]) -> Result<Vec<Option<u32>>, 
         count = next;
     }
     Ok(ordinals)
+}
+
+/// How many data leaves stand before each place, and before the end.
+fn leaf_counts(alloc: Global, members: &[DraftMember]) -> Result<Vec<u32>, NoMemory>
+    requires short { length members.now < 2 ^ 32 }
+    requires tree { IsTree (parents_of members.now) }
+    ensures { IfOk result (λ v. v.items ≡ map (leaves_before members.now) (range_with_len 0 (length members.now + 1))) }
+{
+    let mut counts = Vec::new(alloc);
+    let mut count = 0;
+    for place in 0..members.len() as u32 {
+        counts.push(count)?;
+        let (_ordinal, next) = ordinal_step(members, place, count);
+        count = next;
+    }
+    counts.push(count)?;
+    Ok(counts)
 }
 
 /// Of each data leaf the place of the first member of a hierarchy that shares it.
@@ -281,6 +298,7 @@ fn dim_table(alloc: Global, draft: &Draft, dim: u32, first: u32) -> Result<DimTa
     );
     let leaves = leaf_places(alloc, members)?;
     let ordinals = ordinals(alloc, members)?;
+    let counts = leaf_counts(alloc, members)?;
     let names = leaf_names(alloc, members)?;
     let (trees, end) = tree_tables(alloc, draft, &names, dim, first)?;
     Ok(DimTable {
@@ -288,6 +306,7 @@ fn dim_table(alloc: Global, draft: &Draft, dim: u32, first: u32) -> Result<DimTa
         end,
         leaves,
         ordinals,
+        counts,
         trees,
     })
 }

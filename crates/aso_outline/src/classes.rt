@@ -55,7 +55,7 @@ impl Outline {
         table.ordinals[at as usize]
     }
 
-    fn other_leaf(&self, dim: u32, hier: u32, at: u32) -> Option<u32>
+    pub(crate) fn other_leaf(&self, dim: u32, hier: u32, at: u32) -> Option<u32>
         requires there { IsSeat self.now (Inner dim hier at) }
         requires alternate { 0 < hier }
         ensures value { result ≡ leaf_of self.now (Inner dim hier at) }

@@ -326,3 +326,40 @@ fn classes_and_attributes(rt: HostRuntime) -> Result<(), Fail> {
     }
     Ok(())
 }
+
+fn range(outline: &Outline, m: u32, level: u32) -> Option<(u32, u32)> {
+    if m >= outline.members() {
+        return None;
+    }
+    if !outline.has_range(m, level) {
+        return None;
+    }
+    Some(outline.class_range(m, level))
+}
+
+#[test]
+fn ranges_of_classes(rt: HostRuntime) -> Result<(), Fail> {
+    let Ok(outline) = Outline::verify(rt.alloc(), basic(rt.alloc())?) else {
+        return Err(Fail::from("refused"));
+    };
+    // number, level, the range of the classes that it holds: NY, MA, CA; East, CA; Total; by Big alone Big
+    for (m, level, want) in [
+        (3, 0, Some((0, 3))),
+        (5, 0, Some((0, 2))),
+        (8, 0, Some((2, 3))),
+        (11, 0, Some((2, 3))),
+        (14, 0, Some((2, 3))),
+        (9, 0, None),
+        (3, 1, Some((0, 2))),
+        (5, 1, Some((0, 1))),
+        (8, 1, None),
+        (9, 1, Some((0, 1))),
+        (12, 1, None),
+        (4, 2, Some((0, 1))),
+        (5, 2, None),
+        (20, 0, None),
+    ] {
+        assert_eq!(rt; range(&outline, m, level), want, "at {m}, {level}");
+    }
+    Ok(())
+}

@@ -25,6 +25,8 @@ pub struct DimTable {
     /// The places of its data leaves in the first hierarchy, by ordinal; and of each place the ordinal of the data leaf there.
     pub leaves: Vec<u32>,
     pub ordinals: Vec<Option<u32>>,
+    /// How many data leaves stand before each place of the first hierarchy, and before its end.
+    pub counts: Vec<u32>,
     pub trees: Vec<TreeTable>,
 }
 

@@ -790,3 +790,39 @@ fn members_by_name(rt: HostRuntime) -> Result<(), Fail> {
     assert_eq!(rt; outline.seats(rt.alloc())?.len(), 23);
     Ok(())
 }
+
+/// A chain of formulas, and a label-only member that stands for one.
+#[test]
+fn ranks_of_members(rt: HostRuntime) -> Result<(), Fail> {
+    let lines = [
+        Line::Dim("D"),
+        Line::Dynamic,
+        D,
+        A,
+        Line::Member("F", 0, Mark::Of("G")),
+        Line::Member("G", 0, Mark::Less("H", "A")),
+        Line::Member("H", 0, Mark::Of("A")),
+        Line::Member("L", 0, Mark::LabelOnly),
+        Line::Member("K", 5, Mark::Of("F")),
+    ];
+    let draft = beside_year(rt.alloc(), lines.as_slice())?;
+    let Ok(outline) = Outline::verify(rt.alloc(), draft) else {
+        return Err(Fail::from("refused"));
+    };
+    for (m, rank) in [
+        (0, 0),
+        (1, 0),
+        (3, 5),
+        (4, 0),
+        (5, 3),
+        (6, 2),
+        (7, 1),
+        (8, 4),
+        (9, 4),
+    ] {
+        if m < outline.members() {
+            assert_eq!(rt; outline.rank(m), rank, "at {m}");
+        }
+    }
+    Ok(())
+}

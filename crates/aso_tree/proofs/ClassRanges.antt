@@ -1,7 +1,7 @@
 -- The classes of a level at or below a node stand in a row.
 use Rattle.std.specs.Prelude.{is_some, slice_index, nat_le, nat_lt, unwrap_or}
 use Rattle.std.specs.List.{filter, range_with_len}
-use Rattle.std.proofs.Common.{◌≡◌, ◌∙◌, ℕ, zero, suc, ◌+◌, ◌-◌, ◌<◌, ◌≤◌, ◌^◌, ◌&&◌, ◌⊎◌, ⊎_elim, Bool, true, false, List, length, length-append, Option, Some, None, refl, sym, ap, arith, subst, true≢false}
+use Rattle.std.proofs.Common.{◌≡◌, ◌∙◌, ℕ, zero, suc, ◌+◌, ◌-◌, ◌<◌, ◌≤◌, ◌^◌, ◌&&◌, ◌⊎◌, ⊎_elim, Bool, true, false, cond, [], ◌∷◌, List, length, length-append, Option, Some, None, refl, sym, ap, arith, subst, true≢false}
 use Rattle.std.proofs.lemmas.Bool.{le-leb, leb-true, lt-leb, lt-ltb, le-ltb, ltb-true}
 use Rattle.std.proofs.lemmas.List.Elements.{filter-append}
 use Rattle.std.proofs.lemmas.Option.{none-some, same_Some}
@@ -45,6 +45,17 @@ module _ (p : ℕ → Bool) where
       let one : length (filter p (range_with_len a (a + 1 - a))) ≡ 1 = ap (λ (n : ℕ). length (filter p (range_with_len a n))) next ∙ one_there a pass in
       let rest = before_le (a + 1) b (omega (arith, low)) in
       omega (arith, sum, one, rest)
+
+  one_most : (b : Bool) (a : ℕ) → length (cond b (a ∷ []) []) ≤ 1
+  one_most true a = omega arith
+  one_most false a = omega arith
+
+  pub step_one : (a : ℕ) → length (filter p (range_with_len 0 (a + 1))) ≤ length (filter p (range_with_len 0 a)) + 1
+  step_one a =
+      let sum = parts a (a + 1) (omega arith) in
+      let next : a + 1 - a ≡ 1 = omega arith in
+      let one : length (filter p (range_with_len a (a + 1 - a))) ≤ 1 = rw next (one_most (p a) a) in
+      omega (arith, sum, one)
 
 module _ (lo hi k : ℕ) where
   in_range : lo ≤ k → k < hi → (nat_le lo k && nat_lt k hi) ≡ true

@@ -1,0 +1,143 @@
+#!/bin/sh
+# Times `Outline::verify` of the proved build over drafts of a million members: a flat one, a deep one, and one with 10,000 formulas
+# in chains of the greatest rank. The proved program is made in a folder of its own, which is removed at the end; from nothing its
+# proof takes many minutes. Wants the kit's `rt`.
+set -eu
+top=$(cd "$(dirname "$0")/.." && pwd)
+turns=${1:-5}
+work=$(mktemp -d)
+trap 'rm -rf "$work"' EXIT
+mkdir "$work/crates"
+for name in aso_memory aso_num aso_tree aso_outline; do
+    mkdir "$work/crates/$name"
+    for part in src specs proofs; do
+        if [ -d "$top/crates/$name/$part" ]; then
+            cp -R "$top/crates/$name/$part" "$work/crates/$name/"
+        fi
+    done
+    grep "^$name:" "$top/crates.txt" >>"$work/crates.txt"
+done
+echo 'times: aso_memory aso_num aso_tree aso_outline sqlite_items indexmap thiserror anyhow' >>"$work/crates.txt"
+mkdir -p "$work/crates/times/src"
+cat >"$work/crates/times/src/main.rt" <<'EOP'
+//! Times the verification of outlines.
+#![tactic(auto)]
+
+use anyhow::Result;
+use aso_memory::NoMemory;
+use aso_num::{List, Text};
+use aso_outline::{Aggregate, Draft, DraftDim, DraftHier, DraftMember, Expr, Op, Outline};
+use std::alloc::Global;
+use std::time::Instant;
+
+/// How the members of the great dimension stand: all under the root, each 31st under the root and each other one under the member
+/// before it, or as formulas of which each 63rd is a number and each other names the member before it.
+#[derive(Clone, Copy, Debug, PartialEq, Eq)]
+enum Shape {
+    Flat,
+    Deep,
+    Chained,
+}
+
+fn member(alloc: Global, name: String, parent: u32, formula: Option<Expr>) -> DraftMember {
+    DraftMember {
+        name: Text::of(name),
+        parent,
+        shared: false,
+        label_only: false,
+        op: Op::Plus,
+        solve: None,
+        formula,
+        carries: List::of(Vec::new(alloc)),
+    }
+}
+
+/// The formula of a member: the member before it, or at the head of a chain a number.
+fn formula(alloc: Global, number: u32) -> Result<Expr, NoMemory> {
+    if number % 63 == 1 || number == 0 {
+        return Ok(Expr::Num(10000));
+    }
+    let mut names = Vec::new(alloc);
+    names.push(Text::of(format!(in alloc; "m{}", number - 1)?))?;
+    Ok(Expr::Cell(List::of(names)))
+}
+
+fn parent(shape: Shape, number: u32) -> u32 {
+    if shape == Shape::Deep && number > 0 && number % 31 != 1 {
+        number - 1
+    } else {
+        0
+    }
+}
+
+/// A dimension of so many members below its root.
+fn dim(alloc: Global, name: &str, shape: Shape, count: u32) -> Result<DraftDim, NoMemory> {
+    let mut members = Vec::new(alloc);
+    members.push(member(alloc, String::from_str(alloc, name)?, u32::MAX, None))?;
+    for number in 1..count {
+        let formula = if shape == Shape::Chained && number <= 10_000 {
+            Some(formula(alloc, number)?)
+        } else {
+            None
+        };
+        let name = format!(in alloc; "{name}{number}")?;
+        members.push(member(alloc, name, parent(shape, number), formula))?;
+    }
+    let tree = DraftHier {
+        dynamic: shape == Shape::Chained,
+        members: List::of(members),
+    };
+    Ok(DraftDim {
+        name: Text::of(String::from_str(alloc, name)?),
+        aggregate: Aggregate::Bottom,
+        hiers: List::of(vec![in alloc; tree]?),
+    })
+}
+
+fn draft(alloc: Global, shape: Shape, count: u32) -> Result<Draft, NoMemory> {
+    let mut dims = Vec::new(alloc);
+    dims.push(dim(alloc, "y", Shape::Flat, 13)?)?;
+    dims.push(dim(alloc, "m", shape, count)?)?;
+    Ok(Draft {
+        app: Text::of(String::from_str(alloc, "Sample")?),
+        db: Text::of(String::from_str(alloc, "Large")?),
+        dims: List::of(dims),
+        attrs: List::of(Vec::new(alloc)),
+    })
+}
+
+fn greatest_rank(outline: &Outline) -> u32 {
+    let mut most = 0;
+    for m in 0..outline.members() {
+        let rank = outline.rank(m);
+        if most < rank {
+            most = rank;
+        }
+    }
+    most
+}
+
+fn time(rt: &HostRuntime, name: &str, shape: Shape, count: u32) -> Result<()> {
+    let alloc = rt.alloc();
+    let draft = draft(alloc, shape, count)?;
+    let start = Instant::now(rt)?;
+    let outline = Outline::verify(alloc, draft)?;
+    let taken = start.elapsed(rt)?.as_millis();
+    println!(rt; "{name} {} {} {taken}", outline.members(), greatest_rank(&outline))?;
+    Ok(())
+}
+
+fn main(rt: HostRuntime) -> Result<()> {
+    time(&rt, "flat", Shape::Flat, 1_000_000)?;
+    time(&rt, "deep", Shape::Deep, 1_000_000)?;
+    time(&rt, "chained", Shape::Chained, 1_000_000)
+}
+EOP
+(cd "$work/crates/times" && rt run) >"$work/build.log" 2>&1 || { tail -20 "$work/build.log" >&2; exit 1; }
+for turn in $(seq "$turns"); do
+    "$work/crates/times/out/times"
+done >"$work/times.txt"
+echo "draft members greatest_rank milliseconds (the median)"
+for name in flat deep chained; do
+    grep "^$name " "$work/times.txt" | sort -k4n | sed -n "$(((turns + 1) / 2))p"
+done
