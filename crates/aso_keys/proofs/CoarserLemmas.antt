@@ -1,6 +1,6 @@
 -- Leaves of one class are of one class at every level above, so a coarser view's layout is coarser.
-use Rattle.std.proofs.Common.{◌≡◌, ◌≢◌, ℕ, zero, suc, ◌+◌, ◌<◌, ◌≤◌, ◌⊎◌, inl, inr, Bool, true, false, cond, ltb, eqb, eqb-true, List, [], ◌∷◌, length, map, get_or, refl, sym, ◌∙◌, ap, subst, arith}
-use Rattle.std.specs.Prelude.{Option, Some, None, slice_index, nat_le, is_some, slice_get}
+use Rattle.std.proofs.Common.{◌≡◌, ℕ, zero, suc, ◌+◌, ◌<◌, ◌≤◌, ◌⊎◌, inl, inr, Bool, true, false, cond, ltb, eqb-true, List, [], ◌∷◌, length, map, get_or, refl, sym, ◌∙◌, ap, subst, arith}
+use Rattle.std.specs.Prelude.{Option, Some, None, slice_index, nat_le}
 use Rattle.std.specs.Option.{option_and_then}
 use Rattle.std.specs.List.{filter, last_or, position, range_with_len}
 use Rattle.std.proofs.lemmas.Bool.{ltb-true}
@@ -14,7 +14,7 @@ use Rattle.aso_outline.specs.declared.draft.Draft.{Draft}
 use Rattle.aso_outline.specs.Classes.{class_at, leaf_count, leaf_place}
 use Rattle.aso_outline.specs.Members.{dim_at, parents_of, tree}
 use Rattle.aso_keys.specs.declared.axis.Axis.{Axis}
-use Rattle.aso_keys.specs.Axes.{entry, found, class_of as class_in, IsCoarser, AreCoarser}
+use Rattle.aso_keys.specs.Axes.{entry, IsCoarser, AreCoarser}
 use Rattle.aso_keys.specs.Layouts.{IsAxisOf, AreAxes, IsLayout}
 use Rattle.aso_keys.specs.Views.{Choice, choice_at, IsCoarserChoice, IsCoarserView, IsView}
 

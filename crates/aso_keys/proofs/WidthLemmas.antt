@@ -1,7 +1,7 @@
 -- The bits of the keys of data leaves are those that the outline counts.
-use Rattle.std.proofs.Common.{◌≡◌, ℕ, zero, suc, ◌+◌, ◌-◌, ◌^◌, ◌<◌, ◌≤◌, Bool, true, false, ltb, add-one, inl, inr, List, [], ◌∷◌, ◌++◌, length, map, replicate, refl, sym, ◌∙◌, ap, subst, arith, length-append}
-use Rattle.std.specs.Prelude.{Option, Some, None, nat_lt, nat_le, slice_get}
-use Rattle.std.specs.List.{filter, range_with_len, sum, sum_by}
+use Rattle.std.proofs.Common.{◌≡◌, ℕ, zero, suc, ◌+◌, ◌-◌, ◌^◌, ◌<◌, ◌≤◌, Bool, true, false, inl, inr, List, [], ◌∷◌, length, replicate, refl, sym, ◌∙◌, ap, subst, arith, length-append}
+use Rattle.std.specs.Prelude.{Some, None, nat_lt, nat_le, slice_get}
+use Rattle.std.specs.List.{filter, range_with_len, sum_by}
 use Rattle.std.proofs.Math.Nat.{pow-le-pow_right}
 use Rattle.std.proofs.lemmas.Bool.{lt-ltb, le-ltb, leb-true}
 use Rattle.std.proofs.lemmas.Bool.Decides.{leb_tells}
@@ -17,9 +17,6 @@ use Rattle.aso_keys.specs.Layouts.{AreAxes, IsLayout}
 use Rattle.aso_keys.specs.Views.{Choice, choice_at, IsBase}
 
 module _ (n w : ℕ) (is : IsWidth n w) where
-  test : ℕ → Bool
-  test b = nat_lt (2 ^ b) n
-
   below : (b : ℕ) → b < w → nat_lt (2 ^ b) n ≡ true
   below b lt = elim (leb_tells n (2 ^ b)) [
     | inl le ↦ let h = is.least b le.1 in absurd (omega (arith, h, lt))

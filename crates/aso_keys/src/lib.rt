@@ -11,3 +11,6 @@ mod views;
 pub use aso_outline::View;
 pub use layout::Layout;
 pub use views::{is_coarser, view_of};
+
+#[cfg(test)]
+mod tests;
