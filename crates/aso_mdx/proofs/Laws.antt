@@ -165,3 +165,138 @@ tail_law (suc n) = or_law (One dot ▷ Step n) (Empty plain) (passes dot) (passe
     (empty_law plain (passes dot))
     (behind_heads dot (Step n))
     (λ ts v rest h halts. ap (λ z. begins (passes dot) (z ++ rest)) h.0 ∙ halts)
+
+-- ---- tails of any length
+
+bind_same : {A B : Type 0} (z : Read A) (f g : A × List Token → Read B) → ((x : A × List Token) → z ≡ Ok x → f x ≡ g x) → (z >>= f) ≡ (z >>= g)
+bind_same (Ok x) f g h = h x refl
+bind_same (Err w) f g h = refl
+
+-- a reader that takes one token leaves less
+one_less : {A : Type 0} (f : Token → Option A) (tok : (t : Token) × (a : A) × (f t ≡ Some a)) (ts : List Token) (x : A × List Token) → read_one f ts ≡ Ok x → suc (length x.1) ≡ length ts
+one_less f tok ts x e =
+    let k = (one_law f tok).found ts x e in
+    omega (arith, ap length k.1, length-append k.0 x.1, ap length k.2.1)
+
+step_same : (r s : List Token → Read Rest) (ts : List Token) → ((us : List Token) → suc (length us) ≡ length ts → r us ≡ s us) → read_step r ts ≡ read_step s ts
+step_same r s ts h =
+    ap (λ (z : Read Rest). if begins (passes method) ts then read_as (read_one method) last ts else z)
+    (ap (λ (z : Read (AName × Rest)). z >>= made longer)
+    (bind_same (read_one later_part ts) (second r) (second s) (λ x e. ap (λ (z : Read Rest). z >>= paired x.0) (h x.1 (one_less later_part later_token ts x e)))))
+
+same_tail : (n m : ℕ) (ts : List Token) → length ts ≤ n → length ts ≤ m → read_tail n ts ≡ read_tail m ts
+unfolding read_tail
+same_tail zero zero ts a b = refl
+same_tail zero (suc m) [] a b = refl
+same_tail zero (suc m) (t ∷ ts) a b = absurd (omega arith)
+same_tail (suc n) zero [] a b = refl
+same_tail (suc n) zero (t ∷ ts) a b = absurd (omega arith)
+same_tail (suc n) (suc m) ts a b =
+    ap (λ (z : Read Rest). if begins (passes dot) ts then z else Ok (plain, ts))
+    (ap (λ (z : Read (Unit {0} × Rest)). z >>= made (λ v. v.1))
+    (bind_same (read_one dot ts) (second (read_step (read_tail n))) (second (read_step (read_tail m)))
+    (λ x e. ap (λ (z : Read Rest). z >>= paired x.0)
+    (let k = one_less dot dot_token ts x e in step_same (read_tail n) (read_tail m) x.1 (λ us l. same_tail n m us (omega arith) (omega arith))))))
+
+tail_ge : (n m : ℕ) (ts : List Token) (v : Rest) → n ≤ m → Tail n ts v → Tail m ts v
+tail_ge zero zero ts v le h = h
+tail_ge zero (suc m) ts v le h = inr h
+tail_ge (suc n) zero ts v le h = absurd (omega arith)
+tail_ge (suc n) (suc m) ts v le h = ⊎_elim
+    (λ (h : (One dot ▷ Step n) ts v). let k = h.1 in
+    inl (h.0, (k.0, k.1, k.2, k.3, ⊎_elim
+        (λ (j : Makes (One method) last k.1 h.0.1). inl j)
+        (λ (j : Makes (Then (One later_part) (Tail n)) longer k.1 h.0.1). let i = j.1 in inr (j.0, (i.0, i.1, i.2, i.3, tail_ge n m i.1 j.0.1 (omega arith) i.4), j.2))
+        k.4), h.2))
+    (λ (h : Empty plain ts v). inr h)
+    h
+
+pub tails_law : Law Tails (passes dot) read_tails
+tails_law = record {
+  found = λ ts x e. let f = (tail_law (length ts)).found ts x e in (f.0, f.1, (length ts, f.2));
+  stops = λ ts rest e. let f = (tail_law (length ts)).stops ts rest e in (f.0, f.1, (f.2.0, f.2.1, (length ts, f.2.2)));
+  whole = λ front a rest h halts.
+      let n = length (front ++ rest) in
+      same_tail n (h.0 + n) (front ++ rest) (omega arith) (omega arith)
+      ∙ (tail_law (h.0 + n)).whole front a rest (tail_ge h.0 (h.0 + n) front a (omega arith) h.1) halts;
+  near_ok = λ front us t rest other a e.
+      let n = length (front ++ t ∷ rest) in
+      let m = length (front ++ t ∷ other) in
+      same_tail m (n + m) (front ++ t ∷ other) (omega arith) (omega arith)
+      ∙ (tail_law (n + m)).near_ok front us t rest other a (same_tail (n + m) n (front ++ t ∷ rest) (omega arith) (omega arith) ∙ e);
+  near_err = λ front t rest other e.
+      let n = length (front ++ t ∷ rest) in
+      let m = length (front ++ t ∷ other) in
+      same_tail m (n + m) (front ++ t ∷ other) (omega arith) (omega arith)
+      ∙ (tail_law (n + m)).near_err front t rest other (same_tail (n + m) n (front ++ t ∷ rest) (omega arith) (omega arith) ∙ e);
+}
+
+some_tails : (ts : List Token) × (v : Rest) × Tails ts v
+some_tails = ([], plain, (zero, (refl, refl)))
+
+pub dotted_law : Law Dotted (passes dot) read_dotted
+unfolding read_dotted
+dotted_law = as_law (Then (One part) Tails) (passes dot) (read_then (read_one part) read_tails) ended
+    (then_never (One part) Tails (passes dot) (read_one part) read_tails (one_law part part_token) tails_law some_tails)
+
+-- ---- choices by two tokens
+
+abbrev pub Two : (Token → Bool) → (Token → Bool) → List Token → Type 0
+Two f h ts = begin f h ts ≡ true
+
+abbrev pub NotTwo : (Token → Bool) → (Token → Bool) → List Token → Type 0
+NotTwo f h ts = begin f h ts ≡ false
+
+no_first : (f h : Token → Bool) (ts : List Token) → Halts f ts → NotTwo f h ts
+no_first f h ts e = ap (λ (b : Bool). b && begins_second h ts) e
+
+and_false : (b : Bool) → (b && false) ≡ false
+and_false true = refl
+and_false false = refl
+
+no_second : (f h : Token → Bool) (t : Token) (ts : List Token) → Halts h ts → NotTwo f h (t ∷ ts)
+no_second f h t ts e = ap (λ (b : Bool). f t && b) e ∙ and_false (f t)
+
+-- two tokens and what follows them
+module _ {A B C D : Type 0} (f : Token → Option A) (h : Token → Option B) (Q : Lang C) (made_of : A × C → D) where
+  pub two_begin : (ts : List Token) (d : D) (rest : List Token) → Makes (Then (One f ◁ One h) Q) made_of ts d → Two (passes f) (passes h) (ts ++ rest)
+  two_begin ts d rest s =
+      let k = s.1 in
+      let j = k.3.1 in
+      let front : k.0 ≡ j.3.0 ∷ j.4.0 ∷ [] = j.2 ∙ ap (λ z. z ++ j.1) j.3.1 ∙ ap (λ z. j.3.0 ∷ z) j.4.1 in
+      ap (λ z. begin (passes f) (passes h) (z ++ rest)) (k.2 ∙ ap (λ z. z ++ k.1) front)
+      ∙ ap (λ (o : Option A). is_some o && passes h j.4.0) j.3.2
+      ∙ ap (λ (o : Option B). is_some o) j.4.2
+
+  module _ (gq : Token → Bool) (s : List Token → Read C) (q : Law Q gq s) where
+    too_long : (n m : Token) (rest front : List Token) → rest ≡ front ++ (n ∷ m ∷ rest) → ⊥
+    too_long n m rest front e = omega (arith, ap length e, length-append front (n ∷ m ∷ rest))
+
+    both_taken : (n m : Token) (rest : List Token) (a : A) (b : B) → f n ≡ Some a → h m ≡ Some b → (read_one f ◂ read_one h) (n ∷ m ∷ rest) ≡ Ok (a, rest)
+    both_taken n m rest a b e g =
+        ap (λ (o : Option A). (taken o n (m ∷ rest) >>= second (read_one h)) >>= made (λ (v : A × B). v.0)) e
+        ∙ ap (λ (o : Option B). (taken o m rest >>= paired a) >>= made (λ (v : A × B). v.0)) g
+
+    behind_fails : (z : Read C) (a : A) (w : List Token) → ((z >>= paired a) >>= made made_of) ≡ Err w → z ≡ Err w
+    behind_fails (Ok y) a w e = ok_err (made_of (a, y.0), y.1) w e
+    behind_fails (Err v) a w e = ap (λ (x : List Token). let r : Read C = Err x in r) (err_in v w e)
+      where
+        err_in : (v w : List Token) → (let r : Read D = Err v in r) ≡ Err w → v ≡ w
+        err_in v w e = cc
+
+    fails_later : (n m : Token) (rest : List Token) (a : A) (b : B) → f n ≡ Some a → h m ≡ Some b → read_as (read_then (read_one f ◂ read_one h) s) made_of (n ∷ m ∷ rest) ≡ Err (n ∷ m ∷ rest) → ⊥
+    fails_later n m rest a b e g bad =
+        let here : ((s rest >>= paired a) >>= made made_of) ≡ Err (n ∷ m ∷ rest) =
+        sym (ap (λ (z : Read A). (z >>= second s) >>= made made_of) (both_taken n m rest a b e g)) ∙ bad in
+        let k = q.stops rest (n ∷ m ∷ rest) (behind_fails (s rest) a (n ∷ m ∷ rest) here) in
+        too_long n m rest k.0 k.1
+
+    some_of : {X : Type 0} (o : Option X) → is_some o ≡ true → (x : X) × (o ≡ Some x)
+    some_of (Some x) e = (x, refl)
+    some_of None e = absurd (let n : ⊥ = cc in n)
+
+    pub two_goes : (n m : Token) (rest : List Token) → passes f n ≡ true → passes h m ≡ true → read_as (read_then (read_one f ◂ read_one h) s) made_of (n ∷ m ∷ rest) ≡ Err (n ∷ m ∷ rest) → ⊥
+    two_goes n m rest e g bad =
+        let a = some_of (f n) e in
+        let b = some_of (h m) g in
+        fails_later n m rest a.0 b.0 a.1 b.1 bad
