@@ -1,12 +1,13 @@
 -- What is read is in the grammar of sets, what is in it is read, and a fault is where nothing can come.
 use Rattle.std.proofs.Common.{◌≡◌, ℕ, zero, suc, ◌+◌, ◌≤◌, ◌<◌, length, length-append, arith, Bool, true, false, List, [], ◌∷◌, ◌++◌, Option, Some, None, Result, Ok, Err, ◌⊎◌, inl, inr, ⊎_elim, refl, sym, ◌∙◌, ap, subst, append_assoc, append-nil, ◌||◌, ◌&&◌, is_some, codes, if◌then◌else◌}
-use Rattle.std.specs.Str.{str_eq_ignore_ascii_case}
+use Rattle.std.specs.Str.{str_eq_ignore_ascii_case, str_to_ascii_lowercase, bytes_eq}
+use Rattle.std.proofs.lemmas.Slice.Eq.{bytes_eq-Decides}
 use Rattle.aso_token.specs.declared.token.Token.{Token}
 use Rattle.aso_token.specs.declared.token.Token.TheVariants.{Word, Number, Quoted, Name, Mark}
 use Rattle.aso_token.specs.declared.token.Mark.TheVariants.{Dot, Comma, Open, Close, OpenSet, CloseSet, Plus, Minus, Star, Slash, Equals}
 use Rattle.aso_token.specs.Lang.{Lang, One, Then, Or, Makes, Empty, UpTo, Many, Begins, ◌▷◌, ◌◁◌}
 use Rattle.aso_token.specs.Reads.{Read, ◌>>=◌, taken, paired, second, made, begins, begin, begins_second, read_one, read_then, read_as, read_if, read_if_two, read_many, read_empty, passes, ◌▸◌, ◌◂◌}
-use Rattle.aso_token.proofs.Laws.{Law, Halts, Never, either, one_law, then_law, then_never, right_never, left_never, as_law, or_law, or_two_law, many_law, empty_law, loosen, one_heads, many_follow, halts_first, halts_second, never_halts, fails, good, ok_is, ok_err, bind_ok, bind_err}
+use Rattle.aso_token.proofs.Laws.{Law, Halts, Never, either, one_law, then_law, then_never, right_never, left_never, as_law, or_law, or_two_law, many_law, empty_law, loosen, one_heads, many_follow, halts_first, halts_second, never_halts, fails, if_true, if_false, good, ok_is, ok_err, bind_ok, bind_err}
 use Rattle.aso_token.specs.Marks.{comma, open_mark, close_mark}
 use Rattle.aso_token.specs.Words.{is_word, key, known, part, dot, open_set, close_set}
 use Rattle.aso_mdx.specs.declared.query.SetText.{SetText}
@@ -300,3 +301,288 @@ module _ {A B C D : Type 0} (f : Token → Option A) (h : Token → Option B) (Q
         let a = some_of (f n) e in
         let b = some_of (h m) g in
         fails_later n m rest a.0 b.0 a.1 b.1 bad
+
+-- ---- words
+
+same_word : (a w v : List ℕ) → str_eq_ignore_ascii_case a w ≡ true → str_eq_ignore_ascii_case a v ≡ str_eq_ignore_ascii_case w v
+same_word a w v e = ap (λ (z : List ℕ). bytes_eq z (str_to_ascii_lowercase v)) ((bytes_eq-Decides (str_to_ascii_lowercase a) (str_to_ascii_lowercase w)).0 e)
+
+-- one word isn't another
+pub words_apart : (w v : List ℕ) (t : Token) → str_eq_ignore_ascii_case w v ≡ false → is_word w t ≡ true → is_word v t ≡ false
+unfolding is_word
+words_apart w v (Word text) e h = same_word text w v h ∙ e
+words_apart w v t e h = absurd (let n : ⊥ = cc in n)
+
+word_part : (w : List ℕ) (t : Token) → is_word w t ≡ true → passes part t ≡ true
+unfolding is_word
+word_part w (Word text) h = refl
+word_part w t h = absurd (let n : ⊥ = cc in n)
+
+known_is : {A : Type 0} (b : Bool) (a : A) → is_some (known b a) ≡ true → b ≡ true
+known_is true a e = refl
+known_is false a e = absurd (let n : ⊥ = cc in n)
+
+known_not : {A : Type 0} (b : Bool) (a : A) → b ≡ false → is_some (known b a) ≡ false
+known_not b a e = ap (λ (c : Bool). is_some (known c a)) e
+
+key_part : (w : List ℕ) (t : Token) → passes (key w) t ≡ true → passes part t ≡ true
+key_part w t h = word_part w t (known_is (is_word w t) tt h)
+
+function_part : (t : Token) → passes function t ≡ true → passes part t ≡ true
+unfolding is_word
+function_part (Word text) h = refl
+function_part t h = absurd (let n : ⊥ = cc in n)
+
+not_function : (a b c d : Bool) → a ≡ false → b ≡ false → c ≡ false → d ≡ false
+    → is_some (let m : Option (List AName → SetText) = if a then Some Children else (if b then Some Members else (if c then Some Descendants else known d Leaves)) in m) ≡ false
+not_function a b c d ea eb ec ed = rw (ea, eb, ec, ed) refl
+
+-- a word that no function has
+key_function : (w : List ℕ) → str_eq_ignore_ascii_case w (codes "children") ≡ false → str_eq_ignore_ascii_case w (codes "members") ≡ false → str_eq_ignore_ascii_case w (codes "descendants") ≡ false → str_eq_ignore_ascii_case w (codes "leaves") ≡ false
+    → (t : Token) → passes (key w) t ≡ true → passes function t ≡ false
+key_function w a b c d t h =
+    let is = known_is (is_word w t) tt h in
+    not_function (is_word (codes "children") t) (is_word (codes "members") t) (is_word (codes "descendants") t) (is_word (codes "leaves") t)
+    (words_apart w (codes "children") t a is) (words_apart w (codes "members") t b is) (words_apart w (codes "descendants") t c is) (words_apart w (codes "leaves") t d is)
+
+some_is : {A : Type 0} (b : Bool) (a : A) → b ≡ true → is_some (known b a) ≡ true
+some_is b a e = ap (λ (c : Bool). is_some (known c a)) e
+
+true_or_false : (b : Bool) → (b ≡ true) ⊎ (b ≡ false)
+true_or_false true = inl refl
+true_or_false false = inr refl
+
+-- a function's word isn't this one
+function_key : (w : List ℕ) → ((t : Token) → passes (key w) t ≡ true → passes function t ≡ false) → (t : Token) → passes function t ≡ true → passes (key w) t ≡ false
+function_key w apart t h = ⊎_elim
+    (λ (k : passes (key w) t ≡ true). absurd (let e : true ≡ false = sym h ∙ apart t k in let n : ⊥ = cc in n))
+    (λ (k : passes (key w) t ≡ false). k)
+    (true_or_false (passes (key w) t))
+
+part_open : (t : Token) → passes part t ≡ true → passes open_mark t ≡ false
+part_open (Word text) e = refl
+part_open (Name text) e = refl
+part_open t e = absurd (let n : ⊥ = cc in n)
+
+part_open_set : (t : Token) → passes part t ≡ true → passes open_set t ≡ false
+part_open_set (Word text) e = refl
+part_open_set (Name text) e = refl
+part_open_set t e = absurd (let n : ⊥ = cc in n)
+
+part_dot : (t : Token) → passes part t ≡ true → passes dot t ≡ false
+part_dot (Word text) e = refl
+part_dot (Name text) e = refl
+part_dot t e = absurd (let n : ⊥ = cc in n)
+
+open_open_set : (t : Token) → passes open_mark t ≡ true → passes open_set t ≡ false
+open_open_set (Mark Open) e = refl
+open_open_set t e = absurd (let n : ⊥ = cc in n)
+
+dot_open : (t : Token) → passes dot t ≡ true → passes open_mark t ≡ false
+dot_open (Mark Dot) e = refl
+dot_open t e = absurd (let n : ⊥ = cc in n)
+
+open_dot : (t : Token) → passes open_mark t ≡ true → passes dot t ≡ false
+open_dot (Mark Open) e = refl
+open_dot t e = absurd (let n : ⊥ = cc in n)
+
+open_key : (w : List ℕ) (t : Token) → passes open_mark t ≡ true → passes (key w) t ≡ false
+unfolding is_word
+open_key w (Mark Open) e = refl
+open_key w t e = absurd (let n : ⊥ = cc in n)
+
+-- ---- sets that hold no other
+
+abbrev pub set_goes : Token → Bool
+set_goes = either (passes open_mark) (passes dot)
+
+tail_follow : (h : Token → Bool) → ((t : Token) → passes dot t ≡ true → h t ≡ false) → (n : ℕ) (ys : List Token) (v : Rest) (rest : List Token) → Tail n ys v → Halts h rest → Halts h (ys ++ rest)
+tail_follow h apart zero ys v rest k halts = ap (λ z. begins h (z ++ rest)) k.0 ∙ halts
+tail_follow h apart (suc n) ys v rest k halts = ⊎_elim
+    (λ (j : (One dot ▷ Step n) ys v). fails (passes dot) h apart (ys ++ rest) (behind_heads dot (Step n) ys v rest j))
+    (λ (j : Empty plain ys v). ap (λ z. begins h (z ++ rest)) j.0 ∙ halts)
+    k
+
+dotted_apart : (f h : Token → Bool) → ((t : Token) → passes dot t ≡ true → h t ≡ false) → (ts : List Token) (a : SetText) (rest : List Token) → Dotted ts a → Halts h rest → NotTwo f h (ts ++ rest)
+dotted_apart f h apart ts a rest s halts =
+    let k = s.1 in
+    ap (λ z. begin f h (z ++ rest)) (k.2 ∙ ap (λ z. z ++ k.1) k.3.1)
+    ∙ no_second f h k.3.0 (k.1 ++ rest) (tail_follow h apart k.4.0 k.1 s.0.1 rest k.4.1 halts)
+
+tuple_heads : (ts : List Token) (a : SetText) (rest : List Token) → Makes Paths Tuple ts a → begins (passes open_mark) (ts ++ rest) ≡ true
+tuple_heads ts a rest h = behind_heads open_mark (Listed Path ◁ One close_mark) ts h.0 rest h.1
+
+call_heads : (ts : List Token) (a : SetText) (rest : List Token) → Call ts a → begins (passes function) (ts ++ rest) ≡ true
+call_heads ts a rest h =
+    let k = h.1 in
+    let j = k.3.1 in
+    ap (λ z. begins (passes function) (z ++ rest)) (k.2 ∙ ap (λ z. z ++ k.1) (j.2 ∙ ap (λ z. z ++ j.1) j.3.1)) ∙ ap is_some j.3.2
+
+dotted_heads : (ts : List Token) (a : SetText) (rest : List Token) → Dotted ts a → begins (passes part) (ts ++ rest) ≡ true
+dotted_heads ts a rest h = one_heads part Tails ts h.0 rest h.1
+
+-- one part alone, where no dot follows
+part_alone : (n m : Token) (rest : List Token) → passes part n ≡ true → passes dot m ≡ false → (b : SetText) × (read_dotted (n ∷ m ∷ rest) ≡ Ok (b, m ∷ rest))
+unfolding read_dotted read_tail
+part_alone (Word text) m rest e ends =
+    (Member (text ∷ []), ap (λ (z : Read Rest). (z >>= paired text) >>= made ended) (if_false (passes dot m) ((read_one dot ▸ read_step (read_tail (length rest))) (m ∷ rest)) (Ok (plain, m ∷ rest)) ends))
+part_alone (Name text) m rest e ends =
+    (Member (text ∷ []), ap (λ (z : Read Rest). (z >>= paired text) >>= made ended) (if_false (passes dot m) ((read_one dot ▸ read_step (read_tail (length rest))) (m ∷ rest)) (Ok (plain, m ∷ rest)) ends))
+part_alone t m rest e ends = absurd (let n : ⊥ = cc in n)
+
+dotted_full : (a : SetText) → Dotted [] a → ⊥
+dotted_full a h = let e : false ≡ true = dotted_heads [] a [] h in let n : ⊥ = cc in n
+
+call_goes : (n m : Token) (rest : List Token) → passes function n ≡ true → passes open_mark m ≡ true → read_call (n ∷ m ∷ rest) ≡ Err (n ∷ m ∷ rest) → ⊥
+unfolding read_call
+call_goes = two_goes function open_mark (Path ◁ One close_mark) applied Never (read_path ◂ read_one close_mark) (closed_law Path path_goes read_path path_law close_mark close_token close_path)
+
+pub leaf_law : Law Leaf set_goes read_leaf
+unfolding read_leaf
+leaf_law = or_law (Makes Paths Tuple) (Or Call Dotted) set_goes (passes open_mark) (read_as read_paths Tuple) (read_if_two (passes function) (passes open_mark) read_call read_dotted)
+    (loosen (Makes Paths Tuple) Never set_goes (read_as read_paths Tuple) (λ ts h. never_halts ts) (as_law Paths Never read_paths Tuple paths_law))
+    (or_two_law Call Dotted set_goes (passes function) (passes open_mark) read_call read_dotted
+    (loosen Call Never set_goes read_call (λ ts h. never_halts ts) call_law)
+    (loosen Dotted (passes dot) set_goes read_dotted (λ ts h. halts_second (passes open_mark) (passes dot) ts h) dotted_law)
+    (two_begin function open_mark (Path ◁ One close_mark) applied)
+    (λ ts a rest h halts. dotted_apart (passes function) (passes open_mark) dot_open ts a rest h (halts_first (passes open_mark) (passes dot) rest halts))
+    dotted_full
+    (λ n m rest e g. part_alone n m rest (function_part n e) (open_dot m g))
+    call_goes)
+    tuple_heads
+    (λ ts a rest h halts. ⊎_elim
+    (λ (k : Call ts a). fails (passes function) (passes open_mark) (λ t e. part_open t (function_part t e)) (ts ++ rest) (call_heads ts a rest k))
+    (λ (k : Dotted ts a). fails (passes part) (passes open_mark) part_open (ts ++ rest) (dotted_heads ts a rest k))
+    h)
+
+pub leaf_apart : (f h : Token → Bool) → ((t : Token) → passes open_mark t ≡ true → f t ≡ false) → ((t : Token) → passes function t ≡ true → f t ≡ false) → ((t : Token) → passes dot t ≡ true → h t ≡ false)
+    → (ts : List Token) (a : SetText) (rest : List Token) → Leaf ts a → Halts h rest → NotTwo f h (ts ++ rest)
+leaf_apart f h opens calls dots ts a rest s halts = ⊎_elim
+    (λ (k : Makes Paths Tuple ts a). no_first f h (ts ++ rest) (fails (passes open_mark) f opens (ts ++ rest) (tuple_heads ts a rest k)))
+    (λ (k : Or Call Dotted ts a). ⊎_elim
+    (λ (j : Call ts a). no_first f h (ts ++ rest) (fails (passes function) f calls (ts ++ rest) (call_heads ts a rest j)))
+    (λ (j : Dotted ts a). dotted_apart f h dots ts a rest j halts)
+    k)
+    s
+
+-- no leaf begins with a brace
+leaf_brace : (ts : List Token) (a : SetText) (rest : List Token) → Leaf ts a → Halts (passes open_set) (ts ++ rest)
+leaf_brace ts a rest s = ⊎_elim
+    (λ (k : Makes Paths Tuple ts a). fails (passes open_mark) (passes open_set) open_open_set (ts ++ rest) (tuple_heads ts a rest k))
+    (λ (k : Or Call Dotted ts a). ⊎_elim
+    (λ (j : Call ts a). fails (passes function) (passes open_set) (λ t e. part_open_set t (function_part t e)) (ts ++ rest) (call_heads ts a rest j))
+    (λ (j : Dotted ts a). fails (passes part) (passes open_set) part_open_set (ts ++ rest) (dotted_heads ts a rest j))
+    k)
+    s
+
+leaf_full : (a : SetText) → Leaf [] a → ⊥
+leaf_full a s = ⊎_elim
+    (λ (k : Makes Paths Tuple [] a). let e : false ≡ true = tuple_heads [] a [] k in let n : ⊥ = cc in n)
+    (λ (k : Or Call Dotted [] a). ⊎_elim
+    (λ (j : Call [] a). let e : false ≡ true = call_heads [] a [] j in let n : ⊥ = cc in n)
+    (λ (j : Dotted [] a). dotted_full a j)
+    k)
+    s
+
+-- a word that no function has, alone
+pub word_alone : (n m : Token) (rest : List Token) → passes part n ≡ true → passes function n ≡ false → passes dot m ≡ false → (b : SetText) × (read_leaf (n ∷ m ∷ rest) ≡ Ok (b, m ∷ rest))
+unfolding read_leaf
+word_alone n m rest e other dots =
+    let x = part_alone n m rest e dots in (
+      x.0,
+      if_false (passes open_mark n) (read_as read_paths Tuple (n ∷ m ∷ rest)) (read_if_two (passes function) (passes open_mark) read_call read_dotted (n ∷ m ∷ rest)) (part_open n e)
+          ∙ if_false (begin (passes function) (passes open_mark) (n ∷ m ∷ rest)) (read_call (n ∷ m ∷ rest)) (read_dotted (n ∷ m ∷ rest)) (no_first (passes function) (passes open_mark) (n ∷ m ∷ rest) other)
+          ∙ x.1,
+    )
+
+some_leaf : (ts : List Token) × (a : SetText) × Leaf ts a
+some_leaf = (Word [] ∷ [], Member ([] ∷ []), inr (inr (([], plain), (Word [] ∷ [], [], refl, (Word [], refl, refl), (zero, (refl, refl))), refl)))
+
+-- ---- sets of every depth
+
+cross_function : (t : Token) → passes (key (codes "crossjoin")) t ≡ true → passes function t ≡ false
+cross_function = key_function (codes "crossjoin") refl refl refl refl
+
+comma_set : (t : Token) → passes comma t ≡ true → set_goes t ≡ false
+comma_set (Mark Comma) e = refl
+comma_set t e = absurd (let n : ⊥ = cc in n)
+
+close_set_goes : (t : Token) → passes close_mark t ≡ true → set_goes t ≡ false
+close_set_goes (Mark Close) e = refl
+close_set_goes t e = absurd (let n : ⊥ = cc in n)
+
+close_brace : (t : Token) → passes close_set t ≡ true → either (passes comma) set_goes t ≡ false
+close_brace (Mark CloseSet) e = refl
+close_brace t e = absurd (let n : ⊥ = cc in n)
+
+abbrev cross_word : Token → Option (Unit {0})
+cross_word = key (codes "crossjoin")
+
+module _ (S : Lang SetText) (r : List Token → Read SetText) (law : Law S set_goes r) (some : (ts : List Token) × (a : SetText) × S ts a) where
+  braces_law : Law (InBraces S) Never (read_braces r)
+  braces_law = as_law (One open_set ▷ Listed S ◁ One close_set) Never (read_one open_set ▸ (read_listed r ◂ read_one close_set)) Braced
+      (right_never (One open_set) (Listed S ◁ One close_set) Never (read_one open_set) (read_listed r ◂ read_one close_set) (one_law open_set open_set_token)
+      (closed_law (Listed S) (either (passes comma) set_goes) (read_listed r) (listed_law S set_goes r law comma_set some) close_set close_set_token close_brace)
+      (some_closed (Listed S) close_set (some_listed S set_goes r law comma_set some) close_set_token))
+
+  abbrev Sides : Lang (SetText × SetText)
+  Sides = Then (S ◁ One comma) S
+
+  abbrev read_sides : List Token → Read (SetText × SetText)
+  read_sides = read_then (r ◂ read_one comma) r
+
+  sides_law : Law (Sides ◁ One close_mark) Never (read_sides ◂ read_one close_mark)
+  sides_law = closed_law Sides set_goes read_sides
+      (then_never (S ◁ One comma) S set_goes (r ◂ read_one comma) r (closed_law S set_goes r law comma comma_token comma_set) law some)
+      close_mark close_token close_set_goes
+
+  some_sides : (ts : List Token) × (v : SetText × SetText) × (Sides ◁ One close_mark) ts v
+  some_sides = let first = some_closed S comma some comma_token in
+      some_closed Sides close_mark (first.0 ++ some.0, (first.1, some.1), (first.0, some.0, refl, first.2, some.2)) close_token
+
+  crossing_law : Law (Crossing S) Never (read_crossing r)
+  crossing_law = as_law (Then (Key (codes "crossjoin") ◁ One open_mark) (Sides ◁ One close_mark)) Never (read_then (read_key (codes "crossjoin") ◂ read_one open_mark) (read_sides ◂ read_one close_mark)) crossed
+      (then_never (Key (codes "crossjoin") ◁ One open_mark) (Sides ◁ One close_mark) Never (read_key (codes "crossjoin") ◂ read_one open_mark) (read_sides ◂ read_one close_mark)
+      (left_never (Key (codes "crossjoin")) (One open_mark) Never (read_key (codes "crossjoin")) (read_one open_mark) (one_law cross_word cross_token) (one_law open_mark open_token) (some_one open_mark open_token))
+      sides_law some_sides)
+
+  braces_heads : (ts : List Token) (a : SetText) (rest : List Token) → InBraces S ts a → begins (passes open_set) (ts ++ rest) ≡ true
+  braces_heads ts a rest h = behind_heads open_set (Listed S ◁ One close_set) ts h.0 rest h.1
+
+  crossing_heads : (ts : List Token) (a : SetText) (rest : List Token) → Crossing S ts a → begins (passes cross_word) (ts ++ rest) ≡ true
+  crossing_heads ts a rest h =
+      let k = h.1 in
+      let j = k.3.1 in
+      ap (λ z. begins (passes cross_word) (z ++ rest)) (k.2 ∙ ap (λ z. z ++ k.1) (j.2 ∙ ap (λ z. z ++ j.1) j.3.1)) ∙ ap is_some j.3.2
+
+  inner_law : Law (Or (Crossing S) Leaf) set_goes (read_if_two (passes cross_word) (passes open_mark) (read_crossing r) read_leaf)
+  inner_law = or_two_law (Crossing S) Leaf set_goes (passes cross_word) (passes open_mark) (read_crossing r) read_leaf
+      (loosen (Crossing S) Never set_goes (read_crossing r) (λ ts h. never_halts ts) crossing_law)
+      leaf_law
+      (two_begin cross_word open_mark (Sides ◁ One close_mark) crossed)
+      (λ ts a rest h halts. leaf_apart (passes cross_word) (passes open_mark) (open_key (codes "crossjoin")) (function_key (codes "crossjoin") cross_function) dot_open ts a rest h (halts_first (passes open_mark) (passes dot) rest halts))
+      leaf_full
+      (λ n m rest e g. word_alone n m rest (key_part (codes "crossjoin") n e) (cross_function n e) (open_dot m g))
+      (two_goes cross_word open_mark (Sides ◁ One close_mark) crossed Never (read_sides ◂ read_one close_mark) sides_law)
+
+  pub next_law : Law (Or (InBraces S) (Or (Crossing S) Leaf)) set_goes (read_if (passes open_set) (read_braces r) (read_if_two (passes cross_word) (passes open_mark) (read_crossing r) read_leaf))
+  next_law = or_law (InBraces S) (Or (Crossing S) Leaf) set_goes (passes open_set) (read_braces r) (read_if_two (passes cross_word) (passes open_mark) (read_crossing r) read_leaf)
+      (loosen (InBraces S) Never set_goes (read_braces r) (λ ts h. never_halts ts) braces_law)
+      inner_law braces_heads
+      (λ ts a rest h halts. ⊎_elim
+      (λ (k : Crossing S ts a). fails (passes cross_word) (passes open_set) (λ t e. part_open_set t (key_part (codes "crossjoin") t e)) (ts ++ rest) (crossing_heads ts a rest k))
+      (λ (k : Leaf ts a). leaf_brace ts a rest k)
+      h)
+
+pub some_set : (n : ℕ) → (ts : List Token) × (a : SetText) × Set n ts a
+some_set zero = some_leaf
+some_set (suc n) = (some_leaf.0, some_leaf.1, inr (inr some_leaf.2))
+
+pub nested_law : (n : ℕ) → Law (Set n) set_goes (read_nested n)
+unfolding read_nested
+nested_law zero = leaf_law
+nested_law (suc n) = next_law (Set n) (read_nested n) (nested_law n) (some_set n)
+
+pub set_law : Law SetTokens set_goes (read_nested 32)
+unfolding SetTokens
+set_law = nested_law 32
