@@ -5,15 +5,15 @@ use Rattle.std.proofs.lemmas.Slice.Eq.{bytes_eq-Decides}
 use Rattle.aso_token.specs.declared.token.Token.{Token}
 use Rattle.aso_token.specs.declared.token.Token.TheVariants.{Word, Number, Quoted, Name, Mark}
 use Rattle.aso_token.specs.declared.token.Mark.TheVariants.{Dot, Comma, Open, Close, OpenSet, CloseSet, Plus, Minus, Star, Slash, Equals}
-use Rattle.aso_token.specs.Lang.{Lang, One, Then, Or, Makes, Empty, UpTo, Many, Begins, ◌▷◌, ◌◁◌}
-use Rattle.aso_token.specs.Reads.{Read, ◌>>=◌, taken, paired, second, made, begins, begin, begins_second, read_one, read_then, read_as, read_if, read_if_two, read_many, read_empty, passes, ◌▸◌, ◌◂◌}
-use Rattle.aso_token.proofs.Laws.{Law, Halts, Never, either, one_law, then_law, then_never, right_never, left_never, as_law, or_law, or_two_law, many_law, empty_law, loosen, one_heads, many_follow, halts_first, halts_second, never_halts, fails, if_true, if_false, good, ok_is, ok_err, bind_ok, bind_err}
+use Rattle.aso_token.specs.Lang.{Lang, One, Then, Or, Makes, Empty, UpTo, Many, Chain, Begins, ◌▷◌, ◌◁◌}
+use Rattle.aso_token.specs.Reads.{Read, ◌>>=◌, taken, paired, second, made, begins, begin, begins_second, read_one, read_then, read_as, read_if, read_if_two, read_many, read_chain, read_empty, passes, ◌▸◌, ◌◂◌}
+use Rattle.aso_token.proofs.Laws.{Law, Halts, Never, either, one_law, then_law, then_never, right_never, left_never, as_law, or_law, or_two_law, chain_law, pairs_law, empty_law, loosen, one_heads, halts_first, halts_second, never_halts, fails, if_true, if_false, good, ok_is, ok_err, bind_ok, bind_err}
 use Rattle.aso_token.specs.Marks.{comma, open_mark, close_mark}
 use Rattle.aso_token.specs.Words.{is_word, key, known, part, dot, open_set, close_set}
 use Rattle.aso_mdx.specs.declared.query.SetText.{SetText}
 use Rattle.aso_mdx.specs.declared.query.SetText.TheVariants.{Braced, Member, Tuple, Children, Members, Descendants, Leaves}
-use Rattle.aso_mdx.specs.Grammar.{Name as AName, Rest, Key, in_front, Listed, is_method, later_part, Path, Paths, function, method, applied, Call, plain, last, longer, Tail, Tails, ended, Dotted, Leaf, InBraces, crossed, Crossing, Set, SetTokens}
-use Rattle.aso_mdx.specs.Reading.{read_key, read_listed, read_later, read_path, read_paths, read_call, read_step, read_tail, read_tails, read_dotted, read_leaf, read_braces, read_crossing, read_nested}
+use Rattle.aso_mdx.specs.Grammar.{Name as AName, Rest, Key, all_of, Listed, is_method, later_part, Path, Paths, function, method, applied, Call, plain, last, longer, Tail, Tails, ended, Dotted, Leaf, InBraces, crossed, Crossing, Set, SetTokens}
+use Rattle.aso_mdx.specs.Reading.{read_key, read_listed, read_path, read_paths, read_call, read_step, read_tail, read_tails, read_dotted, read_leaf, read_braces, read_crossing, read_nested}
 
 -- ---- parts that many rules have
 
@@ -74,11 +74,7 @@ cross_token = (Word (codes "crossjoin"), tt, refl)
 
 module _ {A : Type 0} (P : Lang A) (gp : Token → Bool) (r : List Token → Read A) (p : Law P gp r) (apart : (t : Token) → passes comma t ≡ true → gp t ≡ false) (some : (ts : List Token) × (a : A) × P ts a) where
   pub listed_law : Law (Listed P) (either (passes comma) gp) (read_listed r)
-  listed_law = as_law (Then P (Many (One comma ▷ P))) (either (passes comma) gp) (read_then r (read_many (passes comma) (read_one comma ▸ r))) in_front
-      (then_law P (Many (One comma ▷ P)) gp (either (passes comma) gp) r (read_many (passes comma) (read_one comma ▸ r)) p
-      (many_law (One comma ▷ P) gp (passes comma) (read_one comma ▸ r) (right_never (One comma) P gp (read_one comma) r (one_law comma comma_token) p some) (behind_heads comma P) apart (some_behind comma P comma_token some))
-      ([], [], (zero, (refl, refl)))
-      (λ ys b rest h halts. many_follow (One comma ▷ P) (passes comma) gp (behind_heads comma P) apart h.0 ys b rest h.1 (halts_second (passes comma) gp rest halts)))
+  listed_law = as_law (Chain comma P) (either (passes comma) gp) (read_chain comma r) all_of (chain_law P gp r p comma apart comma_token some)
 
   some_listed : (ts : List Token) × (a : List A) × Listed P ts a
   some_listed = (some.0, some.1 ∷ [], ((some.1, []), (some.0, [], sym (append-nil some.0), some.2, (zero, (refl, refl))), refl))
@@ -90,11 +86,9 @@ path_goes = either (passes dot) Never
 
 pub path_law : Law Path path_goes read_path
 unfolding read_path
-path_law = as_law (Then (One part) (Many (One dot ▷ One later_part))) path_goes (read_then (read_one part) (read_many (passes dot) read_later)) in_front
-    (then_never (One part) (Many (One dot ▷ One later_part)) path_goes (read_one part) (read_many (passes dot) read_later) (one_law part part_token)
-    (many_law (One dot ▷ One later_part) Never (passes dot) read_later
-    (right_never (One dot) (One later_part) Never (read_one dot) (read_one later_part) (one_law dot dot_token) (one_law later_part later_token) (some_one later_part later_token))
-    (behind_heads dot (One later_part)) (λ t e. refl) (some_behind dot (One later_part) dot_token (some_one later_part later_token)))
+path_law = as_law (Then (One part) (Many (Then (One dot) (One later_part)))) path_goes (read_then (read_one part) (read_many (passes dot) (read_then (read_one dot) (read_one later_part)))) all_of
+    (then_never (One part) (Many (Then (One dot) (One later_part))) path_goes (read_one part) (read_many (passes dot) (read_then (read_one dot) (read_one later_part))) (one_law part part_token)
+    (pairs_law (One later_part) Never (read_one later_part) (one_law later_part later_token) dot (λ t e. refl) dot_token (some_one later_part later_token))
     ([], [], (zero, (refl, refl))))
 
 pub some_path : (ts : List Token) × (a : List AName) × Path ts a

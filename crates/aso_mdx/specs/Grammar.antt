@@ -1,9 +1,9 @@
 -- The grammar of queries.
-use Rattle.std.specs.Prelude.{◌≡◌, ℕ, zero, suc, Bool, true, false, not, ◌||◌, List, [], ◌∷◌, length, take, drop, ◌+◌, Option, Some, None, codes, if◌then◌else◌, unwrap_or, is_some, ◌==◌}
+use Rattle.std.specs.Prelude.{◌≡◌, ℕ, zero, suc, Bool, true, false, not, ◌||◌, List, [], ◌∷◌, length, map, take, drop, ◌+◌, Option, Some, None, codes, if◌then◌else◌, unwrap_or, is_some, ◌==◌}
 use Rattle.std.specs.List.{prefix_len}
 use Rattle.aso_token.specs.declared.token.Token.{Token}
 use Rattle.aso_token.specs.declared.token.Token.TheVariants.{Name as ANameToken}
-use Rattle.aso_token.specs.Lang.{Lang, One, Then, Or, Makes, Empty, Maybe, UpTo, Many, ◌▷◌, ◌◁◌}
+use Rattle.aso_token.specs.Lang.{Lang, One, Then, Or, Makes, Empty, Maybe, UpTo, Many, Chain, ◌▷◌, ◌◁◌}
 use Rattle.aso_token.specs.Marks.{comma, open_mark, close_mark, name}
 use Rattle.aso_token.specs.Words.{is_word, key, known, plain_name, quoted, part, whole, dot, open_set, close_set, equals}
 use Rattle.aso_token.specs.Texts.{Spells, IsFaultAt}
@@ -22,9 +22,12 @@ Key w = One (key w)
 abbrev pub in_front : {A : Type 0} → A × List A → List A
 in_front v = v.0 ∷ v.1
 
+abbrev pub all_of : {A : Type 0} → A × List (Unit {0} × A) → List A
+all_of v = v.0 ∷ map (λ x. x.1) v.1
+
 -- at least one text, with commas between them
 abbrev pub Listed : {A : Type 0} → Lang A → Lang (List A)
-Listed P = Makes (Then P (Many (One comma ▷ P))) in_front
+Listed P = Makes (Chain comma P) all_of
 
 -- ---- members
 
@@ -37,7 +40,7 @@ later_part t = if is_method t then None else part t
 
 -- a member as its parts
 abbrev pub Path : Lang (List Name)
-Path = Makes (Then (One part) (Many (One dot ▷ One later_part))) in_front
+Path = Makes (Then (One part) (Many (Then (One dot) (One later_part)))) all_of
 
 abbrev pub Paths : Lang (List (List Name))
 Paths = One open_mark ▷ Listed Path ◁ One close_mark

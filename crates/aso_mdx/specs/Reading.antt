@@ -1,24 +1,21 @@
 -- How sets are read.
 use Rattle.std.specs.Prelude.{ℕ, zero, suc, List, length, codes}
 use Rattle.aso_token.specs.declared.token.Token.{Token}
-use Rattle.aso_token.specs.Reads.{Read, read_one, read_then, read_as, read_if, read_if_two, read_many, read_empty, passes, ◌▸◌, ◌◂◌}
+use Rattle.aso_token.specs.Reads.{Read, read_one, read_then, read_as, read_if, read_if_two, read_many, read_chain, read_empty, passes, ◌▸◌, ◌◂◌}
 use Rattle.aso_token.specs.Marks.{comma, open_mark, close_mark}
 use Rattle.aso_token.specs.Words.{key, part, dot, open_set, close_set}
 use Rattle.aso_mdx.specs.declared.query.SetText.{SetText}
 use Rattle.aso_mdx.specs.declared.query.SetText.TheVariants.{Braced, Tuple}
-use Rattle.aso_mdx.specs.Grammar.{Name, Rest, in_front, later_part, function, method, applied, plain, last, longer, ended, crossed}
+use Rattle.aso_mdx.specs.Grammar.{Name, Rest, all_of, later_part, function, method, applied, plain, last, longer, ended, crossed}
 
 abbrev pub read_key : List ℕ → List Token → Read (Unit {0})
 read_key w = read_one (key w)
 
 abbrev pub read_listed : {A : Type 0} → (List Token → Read A) → List Token → Read (List A)
-read_listed r = read_as (read_then r (read_many (passes comma) (read_one comma ▸ r))) in_front
-
-abbrev pub read_later : List Token → Read Name
-read_later = read_one dot ▸ read_one later_part
+read_listed r = read_as (read_chain comma r) all_of
 
 unfoldable pub read_path : List Token → Read (List Name)
-read_path = read_as (read_then (read_one part) (read_many (passes dot) read_later)) in_front
+read_path = read_as (read_then (read_one part) (read_many (passes dot) (read_then (read_one dot) (read_one later_part)))) all_of
 
 unfoldable pub read_paths : List Token → Read (List (List Name))
 read_paths = read_one open_mark ▸ (read_listed read_path ◂ read_one close_mark)
