@@ -267,7 +267,7 @@ module _ {A B C D : Type 0} (f : Token → Option A) (h : Token → Option B) (Q
     too_long : (n m : Token) (rest front : List Token) → rest ≡ front ++ (n ∷ m ∷ rest) → ⊥
     too_long n m rest front e = omega (arith, ap length e, length-append front (n ∷ m ∷ rest))
 
-    both_taken : (n m : Token) (rest : List Token) (a : A) (b : B) → f n ≡ Some a → h m ≡ Some b → (read_one f ◂ read_one h) (n ∷ m ∷ rest) ≡ Ok (a, rest)
+    pub both_taken : (n m : Token) (rest : List Token) (a : A) (b : B) → f n ≡ Some a → h m ≡ Some b → (read_one f ◂ read_one h) (n ∷ m ∷ rest) ≡ Ok (a, rest)
     both_taken n m rest a b e g =
         ap (λ (o : Option A). (taken o n (m ∷ rest) >>= second (read_one h)) >>= made (λ (v : A × B). v.0)) e
         ∙ ap (λ (o : Option B). (taken o m rest >>= paired a) >>= made (λ (v : A × B). v.0)) g

@@ -2,5 +2,7 @@
 #![tactic(auto)]
 
 mod query;
+mod shape;
+mod tokens;
 
 pub use query::{Axis, Own, Query, SetText};
