@@ -7,7 +7,7 @@ use Rattle.std.proofs.lemmas.Str.{IsUtf8-from_ascii}
 use Rattle.std.proofs.lemmas.List.Folds.{list_all-append, length-prefix_len}
 use Rattle.std.proofs.lemmas.Bool.Decides.{nat_tests}
 use Rattle.std.proofs.lemmas.Grind.{common_steps}
-use Rattle.aso_script.proofs.Tests.{ascii_by}
+use Rattle.aso_script.proofs.ByteLemmas.{ascii_by}
 use Rattle.aso_num.specs.declared.amount.NumberFault.{NumberFault}
 use Rattle.aso_num.specs.AmountText.{is_digit, digits_len, sign_len, is_negative, point_len, whole_and_rest, amount_of}
 

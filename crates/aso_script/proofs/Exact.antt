@@ -10,7 +10,7 @@ use Rattle.aso_outline.specs.Members.{Name}
 use Rattle.aso_outline.specs.Rules.{is_word_byte, is_word}
 use Rattle.aso_spec.specs.Script.{Statement, Add, Select, Spells, is_listed, is_list, is_list_or_none, is_amount, is_database, is_statement, bracketed, list_text, database_text, rows_text, slicer_text, statement_text}
 use Rattle.aso_script.specs.Reading.{Read, ◌>>=◌, after, before, front_if, word_len, read_word, until_close, read_closed, read_name, with_db, with_app, read_database, put_before, read_further, followed, read_list, ended, part_behind, read_part, at_end, read_amount, with_amount, with_names, with_cell, read_add, with_slicer, with_source, with_rows, with_columns, read_select, read_other, read_body, read_line}
-use Rattle.aso_script.proofs.Tests.{both}
+use Rattle.aso_script.proofs.ByteLemmas.{both}
 
 -- ---- steps
 

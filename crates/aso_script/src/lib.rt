@@ -14,3 +14,6 @@ pub use laws::spells_one_statement;
 pub use name::{Name, WrittenAmount};
 pub use reading::read_statement;
 pub use statement::Statement;
+
+#[cfg(test)]
+mod tests;

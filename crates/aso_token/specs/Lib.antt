@@ -5,3 +5,4 @@ pub mod Marks
 pub mod Numerals
 pub mod Reads
 pub mod Texts
+pub mod Words

@@ -1,5 +1,5 @@
 use Rattle.std.proofs.Common.{rules, refl, sym, ◌∙◌}
-use Rattle.aso_script.proofs.Tests.{no_text, listed_is}
+use Rattle.aso_script.proofs.ByteLemmas.{no_text, listed_is}
 use Rattle.aso_script.proofs.parts.listed.Goals as goal
 
 pub returns-in-Ok-clause-found : goal.returns-in-Ok-clause-found

@@ -1,4 +1,4 @@
-use Rattle.aso_script.proofs.Tests.{word_is_text}
+use Rattle.aso_script.proofs.ByteLemmas.{word_is_text}
 use Rattle.aso_script.proofs.parts.word_text.Goals as goal
 
 pub unreachable-requires : goal.unreachable-requires
