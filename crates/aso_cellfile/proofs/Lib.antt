@@ -1,3 +1,5 @@
 pub mod Fronts
 pub mod Progress
 pub mod Examples
+pub mod Layouts
+pub mod Powers

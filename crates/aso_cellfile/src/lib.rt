@@ -2,9 +2,12 @@
 #![tactic(auto)]
 
 mod block;
+mod entry;
 mod fault;
 mod steps;
+mod writer;
 
 pub use block::decode;
 pub use fault::{BlockFault, OpenFault, WriteFault};
 pub use steps::Steps;
+pub use writer::Writer;
