@@ -3,3 +3,4 @@ pub mod Progress
 pub mod Examples
 pub mod Layouts
 pub mod Powers
+pub mod Sealed

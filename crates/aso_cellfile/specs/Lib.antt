@@ -3,3 +3,4 @@ pub mod File
 pub mod Making
 pub mod Faults
 pub mod Entries
+pub mod Opened
