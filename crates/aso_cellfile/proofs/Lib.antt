@@ -1,3 +1,6 @@
 pub mod Fronts
 pub mod Progress
 pub mod Examples
+pub mod Layouts
+pub mod Powers
+pub mod Sealed

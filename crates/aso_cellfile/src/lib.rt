@@ -2,9 +2,15 @@
 #![tactic(auto)]
 
 mod block;
+mod entry;
 mod fault;
+mod file;
+mod sealing;
 mod steps;
+mod writer;
 
 pub use block::decode;
 pub use fault::{BlockFault, OpenFault, WriteFault};
+pub use file::CellFile;
 pub use steps::Steps;
+pub use writer::Writer;
