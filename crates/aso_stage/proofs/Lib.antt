@@ -1,0 +1,5 @@
+pub mod Lengths
+pub mod Catalogs
+pub mod Outlined
+pub mod Created
+mod Examples
