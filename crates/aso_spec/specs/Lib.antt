@@ -6,3 +6,4 @@ pub mod Reading
 pub mod Drafts
 pub mod Plain
 pub mod Eval
+pub mod Script

@@ -1,0 +1,5 @@
+pub mod AmountLemmas
+pub mod ByteLemmas
+pub mod Exact
+pub mod Further
+pub mod LineLemmas
