@@ -2,4 +2,6 @@ pub mod Lengths
 pub mod Catalogs
 pub mod Outlined
 pub mod Created
+pub mod Covering
+pub mod Reopened
 mod Examples

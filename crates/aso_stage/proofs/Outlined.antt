@@ -17,7 +17,7 @@ use Rattle.aso_spec.specs.Drafts.{draft_of}
 use Rattle.aso_spec.specs.Plain.{is_name, is_name_byte, are_nested, are_plain_members}
 use Rattle.aso_sheet.proofs.TestLemmas.{both}
 use Rattle.aso_stage.specs.Outlines.{is, is_plain_outline, lines_read, outline_by, outline_of, outline_text, SpellsOutline}
-use Rattle.aso_stage.specs.Store.{State, new_store, recovered}
+use Rattle.aso_stage.specs.Store.{State, fits_outline, new_store, recovered, state_with}
 
 line_short : (d : ℕ) (name : Name) → d ≤ 7 → length name ≤ 80 → length (line_at d name) ≤ 87
 line_short zero name deep long = omega (arith, length-append (codes "dim ") name, long)
@@ -96,3 +96,13 @@ if_ok (Err e) P Q f h = tt
 pub if_ok_both : {T E : Type 0} (r : Result T E) (P Q R : T → Type 0) → ((x : T) → P x → Q x → R x) → IfOk r P → IfOk r Q → IfOk r R
 if_ok_both (Ok x) P Q R f h k = f x h k
 if_ok_both (Err e) P Q R f h k = tt
+
+-- ---- records
+
+pub stands_by : (r : Record) (o : Draft) (b : Bool) → outline_of r.outline ≡ Some o → fits_outline r o ≡ b → recovered r ≡ (if b then Some (state_with r o) else None)
+unfolding recovered
+stands_by r o b reads fits = rw (reads, fits) refl
+
+pub stands_none : (r : Record) → outline_of r.outline ≡ None → recovered r ≡ None
+unfolding recovered
+stands_none r none = rw none refl

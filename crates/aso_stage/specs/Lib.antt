@@ -7,3 +7,5 @@ pub mod Opening
 pub mod Create
 pub mod CellSteps
 pub mod Queries
+pub mod Stores
+pub mod Opened

@@ -4,10 +4,16 @@
 mod answer;
 mod bits;
 mod bodies;
+mod committing;
 mod making;
 mod opening;
 mod outlines;
+mod reopening;
+mod store;
 
 pub use answer::Answer;
+pub use committing::publish_next;
 pub use making::create;
 pub use outlines::read_outline;
+pub use reopening::open_store;
+pub use store::{Store, recover};
