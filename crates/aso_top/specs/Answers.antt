@@ -1,15 +1,19 @@
--- What a run answers: a status and a text, and what of the text reaches the sink.
-use Rattle.std.specs.Prelude.{◌≡◌, ◌⊎◌, ℕ, List, ◌++◌, ◌∷◌, [], Option, Some, None, IsTrue, IfSome, MatchOption, codes}
+-- What a run answers: a status and a text, what of the text reaches the sink, and what a crash leaves of the catalog.
+use Rattle.std.specs.Prelude.{◌≡◌, ◌⊎◌, ℕ, List, ◌++◌, ◌∷◌, [], Option, Some, None, IfSome, IsSome, MatchOption, codes}
 use Rattle.aso_num.specs.declared.status.Status.{Status}
 use Rattle.aso_num.specs.declared.status.Status.TheVariants.{Done, Usage, Refused, Library, Sink, NoMemory}
+use Rattle.aso_disk.specs.Causes.{Rose}
 use Rattle.aso_disk.specs.Texts.{Texts, Appends, AppendsFront}
 use Rattle.aso_spec.specs.Grid.{shown}
-use Rattle.aso_spec.specs.Sheet.{Sheet, sheet_text}
-use Rattle.aso_spec.specs.Plain.{is_plain}
-use Rattle.aso_spec.specs.Eval.{sheet_reply}
+use Rattle.aso_spec.specs.Sheet.{Sheet}
+use Rattle.aso_sheet.specs.Replies.{Spells, IsReply}
+use Rattle.aso_stage.specs.Opening.{IsUntouched}
+use Rattle.aso_stage.specs.Create.{CreateAnswer, CreateLeaves, IsCreated}
 use Rattle.aso_top.specs.declared.words.Command.{Command}
-use Rattle.aso_top.specs.declared.words.Command.TheVariants.{Eval}
+use Rattle.aso_top.specs.declared.words.Command.TheVariants.{Eval, Create}
 use Rattle.aso_top.specs.Words.{command_of}
+
+-- ---- lines
 
 abbrev pub usage_line : List ℕ
 usage_line = codes "usage: aso eval SHEET, create DIR OUTLINE, run DIR SCRIPT, check DIR, sample DIR NUMBER CELLS, serve DIR [--rounds N] SCRIPT...\n"
@@ -17,18 +21,27 @@ usage_line = codes "usage: aso eval SHEET, create DIR OUTLINE, run DIR SCRIPT, c
 abbrev pub no_text_line : List ℕ → List ℕ
 no_text_line name = codes "ERROR 0 206 no such text: " ++ shown name ++ 10 ∷ []
 
+abbrev pub library_line : List ℕ
+library_line = codes "ERROR 0 304 library fault\n"
+
+abbrev pub memory_line : List ℕ
+memory_line = codes "ERROR 0 401 no memory\n"
+
+-- ---- texts
+
+-- some text, or that there is none: what the library has under the name, where it tells its texts
+pub record Found (texts : Option Texts) (name : List ℕ) (P : Option (List ℕ) → Type 0) : Type 0 where
+  pub found : Option (List ℕ)
+  pub told : IfSome texts (λ known. found ≡ known name)
+  pub has : P found
+
+-- the library failed in this call, or no memory was left for the text
+abbrev pub NotRead : Type 0 → Status → List ℕ → Type 0
+NotRead failed Library out = failed × (out ≡ library_line)
+NotRead failed NoMemory out = out ≡ memory_line
+NotRead failed _ out = ⊥
+
 -- ---- sheets
-
--- a text is the spelling of a plain sheet
-pub record Spells (text : List ℕ) (s : Sheet) : Type 0 where
-  pub plain : IsTrue (is_plain s)
-  pub spelled : text ≡ sheet_text s
-
--- The grid of the sheet that the text spells: it spells one, and the output is the reply to each that it spells.
-pub record IsReply (text out : List ℕ) : Type 0 where
-  pub sheet : Sheet
-  pub spells : Spells text sheet
-  pub reply : (s : Sheet) → Spells text s → out ≡ sheet_reply s
 
 pub record IsNotPlain (text out : List ℕ) : Type 0 where
   pub none : (s : Sheet) → Spells text s → ⊥
@@ -39,30 +52,16 @@ SheetAnswer text Done out = IsReply text out
 SheetAnswer text Refused out = IsNotPlain text out
 SheetAnswer text _ out = ⊥
 
--- ---- commands
-
 -- what a text that is there, or not, makes of eval
-abbrev pub TextAnswer : List ℕ → Option (List ℕ) → Status → List ℕ → Type 0
-TextAnswer name None status out = (status ≡ Refused) × (out ≡ no_text_line name)
-TextAnswer name (Some text) status out = SheetAnswer text status out
-
--- The answer to some text, or to there being none: to what the library has, where it tells its texts.
-pub record FoundAnswer (texts : Option Texts) (name : List ℕ) (status : Status) (out : List ℕ) : Type 0 where
-  pub found : Option (List ℕ)
-  pub told : IfSome texts (λ known. found ≡ known name)
-  pub answer : TextAnswer name found status out
+abbrev pub TextAnswer : List ℕ → Status → List ℕ → Option (List ℕ) → Type 0
+TextAnswer name status out None = (status ≡ Refused) × (out ≡ no_text_line name)
+TextAnswer name status out (Some text) = SheetAnswer text status out
 
 -- `failed` is that the library failed in this call
 abbrev pub EvalAnswer : Type 0 → Option Texts → List ℕ → Status → List ℕ → Type 0
-EvalAnswer failed texts name Library out = failed × (out ≡ codes "ERROR 0 304 library fault\n")
-EvalAnswer failed texts name NoMemory out = out ≡ codes "ERROR 0 401 no memory\n"
-EvalAnswer failed texts name status out = FoundAnswer texts name status out
-
-abbrev pub CommandAnswer : Type 0 → Option Texts → Command → Status → List ℕ → Type 0
-CommandAnswer failed texts (Eval sheet) status out = EvalAnswer failed texts sheet status out
-
-abbrev pub Answer : Type 0 → Option Texts → List (List ℕ) → Status → List ℕ → Type 0
-Answer failed texts words status out = MatchOption (command_of words) ((status ≡ Usage) × (out ≡ usage_line)) (λ c. CommandAnswer failed texts c status out)
+EvalAnswer failed texts name Library out = failed × (out ≡ library_line)
+EvalAnswer failed texts name NoMemory out = out ≡ memory_line
+EvalAnswer failed texts name status out = Found texts name (TextAnswer name status out)
 
 -- ---- the sink
 
@@ -76,9 +75,36 @@ IsCut _ = ⊥
 abbrev pub Ends : Option (List ℕ) → Option (List ℕ) → Status → Status → List ℕ → Type 0
 Ends old new answer status text = ((status ≡ answer) × Appends old new text) ⊎ (IsCut status × AppendsFront old new text)
 
--- A run ends by some answer that it may give.
-pub record Runs (failed : Type 0) (texts : Option Texts) (words : List (List ℕ)) (old new : Option (List ℕ)) (status : Status) : Type 0 where
+-- the run ends by some answer that has P
+pub record Gives (P : Status → List ℕ → Type 0) (old new : Option (List ℕ)) (status : Status) : Type 0 where
   pub answer : Status
   pub text : List ℕ
-  pub may : Answer failed texts words answer text
+  pub may : P answer text
   pub ends : Ends old new answer status text
+
+-- ---- commands, over a device
+
+module _ {D : Type 0} (seen : D → Option (List ℕ)) (moment : D → ℕ) (left : D → ℕ → List ℕ → Type 0) (faults : D → ℕ) (old new : D) where
+  -- a store is made of this text, or it is answered why not
+  pub record CreateEnds (text : List ℕ) (status : Status) (out : List ℕ) : Type 0 where
+    pub answer : ((status ≡ NoMemory) × (out ≡ memory_line)) ⊎ CreateAnswer (Rose (faults old) (faults new)) (seen old) text status out
+    pub crash : CreateLeaves moment left (IsSome (seen old)) text old new
+    pub created : status ≡ Done → IsSome (seen old) → (image : List ℕ) → left new (moment new) image → IsCreated text image
+
+  abbrev pub CreateText : List ℕ → Status → List ℕ → Option (List ℕ) → Type 0
+  CreateText name status out None = ((status ≡ Refused) × (out ≡ no_text_line name)) × IsUntouched moment left old new
+  CreateText name status out (Some text) = CreateEnds text status out
+
+  abbrev pub CreateRun : Type 0 → Option Texts → List ℕ → Status → List ℕ → Type 0
+  CreateRun failed texts name status out = (NotRead failed status out × IsUntouched moment left old new) ⊎ Found texts name (CreateText name status out)
+
+  abbrev pub CommandRuns : Type 0 → Option Texts → Command → Option (List ℕ) → Option (List ℕ) → Status → Type 0
+  CommandRuns failed texts (Eval sheet) before after status = Gives (λ answer out. EvalAnswer failed texts sheet answer out × IsUntouched moment left old new) before after status
+  CommandRuns failed texts (Create dir outline) before after status = Gives (CreateRun failed texts outline) before after status
+
+  -- What some words make of a library, a device and a sink. `failed` is that the library failed in this call.
+  abbrev pub Runs : Type 0 → Option Texts → List (List ℕ) → Option (List ℕ) → Option (List ℕ) → Status → Type 0
+  Runs failed texts words before after status =
+      MatchOption (command_of words)
+      (Gives (λ answer out. ((answer ≡ Usage) × (out ≡ usage_line)) × IsUntouched moment left old new) before after status)
+      (λ command. CommandRuns failed texts command before after status)

@@ -1,5 +1,5 @@
 use super::*;
-use aso_disk::{MemLibrary, MemSink};
+use aso_disk::{MemLibrary, MemSink, MemSlots};
 use aso_num::Status;
 use std::alloc::Global;
 use std::fmt::Write;
@@ -35,7 +35,8 @@ fn ran(
     for word in words {
         all.push(String::from_str(alloc, word)?)?;
     }
-    let status = run(alloc, &all, &mut library, &mut out);
+    let mut slots = MemSlots::new(alloc, Vec::new(alloc), 0, Vec::new(alloc))?;
+    let status = run(alloc, &all, &mut slots, &mut library, &mut out);
     Ok((status, Vec::from_slice(alloc, out.bytes())?))
 }
 
@@ -223,6 +224,83 @@ fn sheets_at_the_limits_are_plain_and_those_past_them_are_not(rt: HostRuntime) -
             status,
             "at {members} members, {cells} cells, {columns} columns"
         );
+    }
+    Ok(())
+}
+
+const OUTLINE: &str = "dim Year\n.Jan\n.Feb\ndim Market\n.NY\n.CA\n";
+
+const CREATED: &str = "CREATED Sample.Basic members 6 bits 2\n";
+
+const EXISTS: &str = "EXISTS\n";
+
+const DISK_FAULT: &str = "ERROR 0 301 disk fault\n";
+
+// What `create d s` prints and ends with, over a library in which `s` is this text.
+fn created(alloc: Global, slots: &mut MemSlots, text: &str) -> Result<(Status, Vec<u8>), Fail> {
+    if text.len() >= 1_000_000 {
+        return Ok((Status::Usage, Vec::new(alloc)));
+    }
+    let mut words = Vec::new(alloc);
+    for word in ["create", "d", "s"] {
+        words.push(String::from_str(alloc, word)?)?;
+    }
+    let names = vec![in alloc; String::from_str(alloc, "s")?]?;
+    let texts = vec![in alloc; Vec::from_slice(alloc, text.as_bytes())?]?;
+    let mut library = MemLibrary::new(alloc, names, texts, Vec::new(alloc));
+    let mut out = MemSink::new(alloc, Vec::new(alloc));
+    let status = run(alloc, &words, slots, &mut library, &mut out);
+    Ok((status, Vec::from_slice(alloc, out.bytes())?))
+}
+
+// A device of zeros of which one call fails.
+fn zeros(alloc: Global, fails: u64) -> Result<MemSlots, Fail> {
+    let bytes = vec![in alloc; 0u8; 262_144]?;
+    Ok(MemSlots::new(alloc, bytes, 100, vec![in alloc; fails]?)?)
+}
+
+#[test]
+fn a_store_is_made_once_and_from_an_outline_alone(rt: HostRuntime) -> Result<(), Fail> {
+    let alloc = rt.alloc();
+    let mut slots = zeros(alloc, NEVER)?;
+    let cases = [
+        (FIRST, Status::Refused, NOT_PLAIN),
+        ("", Status::Refused, NOT_PLAIN),
+        ("dim A\n.a", Status::Refused, NOT_PLAIN),
+        (OUTLINE, Status::Done, CREATED),
+        (OUTLINE, Status::Exists, EXISTS),
+        ("dim A\n", Status::Exists, EXISTS),
+    ];
+    for (text, status, line) in cases {
+        let (ended, printed) = created(alloc, &mut slots, text)?;
+        assert_eq!(rt; ended, status);
+        assert_eq!(rt; printed.as_slice(), line.as_bytes());
+    }
+    let mut short = MemSlots::new(alloc, vec![in alloc; 0u8; 7]?, 100, Vec::new(alloc))?;
+    let (ended, printed) = created(alloc, &mut short, OUTLINE)?;
+    assert_eq!(rt; ended, Status::Damaged);
+    assert_eq!(rt; printed.as_slice(), b"DAMAGED catalog size 7\n".as_slice());
+    Ok(())
+}
+
+// The eight device calls are sync, size, two reads, and a write and a sync for the body and for the gate.
+#[test]
+fn each_device_call_of_a_making_fails_and_crashes(rt: HostRuntime) -> Result<(), Fail> {
+    let alloc = rt.alloc();
+    for call in 0..8u64 {
+        let mut slots = zeros(alloc, call)?;
+        let (ended, printed) = created(alloc, &mut slots, OUTLINE)?;
+        assert_eq!(rt; ended, Status::Disk);
+        assert_eq!(rt; printed.as_slice(), DISK_FAULT.as_bytes());
+    }
+    let mut slots = zeros(alloc, NEVER)?;
+    let (ended, _) = created(alloc, &mut slots, OUTLINE)?;
+    assert_eq!(rt; ended, Status::Done);
+    for call in 0..8u64 {
+        let mut image = slots.crash(call, 0)?;
+        let (ended, _) = created(alloc, &mut image, OUTLINE)?;
+        let is_whole = ended == Status::Exists && call >= 6;
+        assert!(rt; ended == Status::Done || is_whole);
     }
     Ok(())
 }

@@ -1,0 +1,15 @@
+pub mod SumLemmas
+pub mod ReadLemmas
+pub mod Steps
+pub mod GridLemmas
+pub mod AmountLemmas
+pub mod SpellLemmas
+pub mod TestLemmas
+pub mod DraftLemmas
+pub mod ReadAgain
+pub mod SheetNames
+pub mod OneSheet
+pub mod PlaceLemmas
+pub mod AxisLemmas
+pub mod ReplyLemmas
+pub mod CellLemmas

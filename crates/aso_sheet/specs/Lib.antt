@@ -1,0 +1,12 @@
+pub mod Replies
+pub mod Eval
+pub mod Sums
+pub mod Shown
+pub mod Raw
+pub mod NameSet
+pub mod Places
+pub mod Axes
+pub mod Cells
+pub mod Spelling
+pub mod Lines
+pub mod Fitting

@@ -1,0 +1,7 @@
+pub mod Lengths
+pub mod Catalogs
+pub mod Outlined
+pub mod Created
+pub mod Covering
+pub mod Reopened
+mod Examples

@@ -1,0 +1,26 @@
+-- The cells of a record where an amount is added to one.
+use Rattle.std.specs.Prelude.{◌≡◌, ℕ, ◌<◌, ◌^◌, ℤ, pos, ◌+ℤ◌, unsigned_abs, Bool, List, [], ◌∷◌}
+use Rattle.std.specs.Ordering.{is_gt, match_ordering}
+use Rattle.aso_spec.specs.Cells.{Key, key_order}
+use Rattle.aso_catalog.specs.declared.record.LeafCell.{LeafCell}
+
+abbrev pub cell_at : Key → ℤ → LeafCell
+cell_at key z = record { leaves = key; amount = z }
+
+-- a cell that stands before the key
+abbrev pub is_above : Key → LeafCell → Bool
+is_above key cell = is_gt (key_order key cell.leaves)
+
+-- the cell becomes its old amount, 0 where it is missing, plus the amount
+abbrev pub add_cell : Key → ℤ → List LeafCell → List LeafCell
+add_cell key z [] = cell_at key z ∷ []
+add_cell key z (c ∷ cs) = match_ordering (key_order key c.leaves) (cell_at key z ∷ c ∷ cs) (cell_at c.leaves (c.amount +ℤ z) ∷ cs) (c ∷ add_cell key z cs)
+
+-- the amount that it then has
+abbrev pub sum_in : Key → ℤ → List LeafCell → ℤ
+sum_in key z [] = z
+sum_in key z (c ∷ cs) = match_ordering (key_order key c.leaves) z (c.amount +ℤ z) (sum_in key z cs)
+
+-- an amount in range
+abbrev pub IsSmall : LeafCell → Type 0
+IsSmall c = unsigned_abs c.amount < 10 ^ 18

@@ -1,0 +1,11 @@
+pub mod Outlines
+pub mod Store
+pub mod Machine
+pub mod Images
+pub mod Session
+pub mod Opening
+pub mod Create
+pub mod CellSteps
+pub mod Queries
+pub mod Stores
+pub mod Opened

@@ -1,0 +1,19 @@
+//! A store of one record: how it is made and opened, its two statements, and the run of a script through every crash.
+#![tactic(auto)]
+
+mod answer;
+mod bits;
+mod bodies;
+mod committing;
+mod making;
+mod opening;
+mod outlines;
+mod reopening;
+mod store;
+
+pub use answer::Answer;
+pub use committing::publish_next;
+pub use making::create;
+pub use outlines::read_outline;
+pub use reopening::open_store;
+pub use store::{Store, recover};

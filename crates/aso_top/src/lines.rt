@@ -1,0 +1,16 @@
+// Lines of the program.
+ghost use Rattle.std.specs.Prelude.{◌≡◌, IfOk};
+ghost use Rattle.aso_top.specs.Answers.{no_text_line};
+
+use aso_sheet::put_shown;
+use std::alloc::{AllocError, Global};
+
+/// The line for a text that isn't there.
+pub fn no_text(alloc: Global, name: &str) -> Result<Vec<u8>, AllocError>
+    ensures { IfOk result (λ line. line.items ≡ no_text_line name.now) }
+{
+    let mut line = Vec::from_slice(alloc, b"ERROR 0 206 no such text: ")?;
+    put_shown(&mut line, name.as_bytes())?;
+    line.push(b'\n')?;
+    Ok(line)
+}
