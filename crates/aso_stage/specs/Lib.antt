@@ -5,7 +5,5 @@ pub mod Images
 pub mod Session
 pub mod Opening
 pub mod Create
-pub mod CellSteps
-pub mod Queries
 pub mod Stores
 pub mod Opened

@@ -1,4 +1,5 @@
-//! A store of one record: how it is made and opened, its two statements, and the run of a script through every crash.
+//! A store of one record: how it is made, opened and published, and what its statements and a run of them are, through
+//! every crash.
 #![tactic(auto)]
 
 mod answer;
