@@ -17,7 +17,7 @@ use Rattle.aso_mdx.specs.Reading.{read_key, read_listed, read_path, read_paths, 
 
 -- ---- parts that many rules have
 
-some_one : {A : Type 0} (f : Token → Option A) → (t : Token) × (a : A) × (f t ≡ Some a) → (ts : List Token) × (a : A) × One f ts a
+pub some_one : {A : Type 0} (f : Token → Option A) → (t : Token) × (a : A) × (f t ≡ Some a) → (ts : List Token) × (a : A) × One f ts a
 some_one f tok = (tok.0 ∷ [], tok.1, (tok.0, refl, tok.2))
 
 -- a text with one token behind it
@@ -35,16 +35,16 @@ behind_heads f Q ts b rest h = one_heads f Q ts h.0 rest h.1
 some_behind : {A B : Type 0} (f : Token → Option A) (Q : Lang B) → (t : Token) × (a : A) × (f t ≡ Some a) → (ts : List Token) × (b : B) × Q ts b → (ts : List Token) × (b : B) × (One f ▷ Q) ts b
 some_behind f Q tok some = (tok.0 ∷ some.0, some.1, ((tok.1, some.1), (tok.0 ∷ [], some.0, refl, (tok.0, refl, tok.2), some.2), refl))
 
-comma_token : (t : Token) × (a : Unit {0}) × (comma t ≡ Some a)
+pub comma_token : (t : Token) × (a : Unit {0}) × (comma t ≡ Some a)
 comma_token = (Mark Comma, tt, refl)
 
-open_token : (t : Token) × (a : Unit {0}) × (open_mark t ≡ Some a)
+pub open_token : (t : Token) × (a : Unit {0}) × (open_mark t ≡ Some a)
 open_token = (Mark Open, tt, refl)
 
-close_token : (t : Token) × (a : Unit {0}) × (close_mark t ≡ Some a)
+pub close_token : (t : Token) × (a : Unit {0}) × (close_mark t ≡ Some a)
 close_token = (Mark Close, tt, refl)
 
-dot_token : (t : Token) × (a : Unit {0}) × (dot t ≡ Some a)
+pub dot_token : (t : Token) × (a : Unit {0}) × (dot t ≡ Some a)
 dot_token = (Mark Dot, tt, refl)
 
 open_set_token : (t : Token) × (a : Unit {0}) × (open_set t ≡ Some a)
@@ -56,7 +56,7 @@ close_set_token = (Mark CloseSet, tt, refl)
 part_token : (t : Token) × (a : AName) × (part t ≡ Some a)
 part_token = (Word [], [], refl)
 
-later_token : (t : Token) × (a : AName) × (later_part t ≡ Some a)
+pub later_token : (t : Token) × (a : AName) × (later_part t ≡ Some a)
 unfolding is_word
 later_token = (Name [], [], refl)
 
@@ -94,11 +94,11 @@ path_law = as_law (Then (One part) (Many (Then (One dot) (One later_part)))) pat
 pub some_path : (ts : List Token) × (a : List AName) × Path ts a
 some_path = (Word [] ∷ [], [] ∷ [], (([], []), (Word [] ∷ [], [], refl, (Word [], refl, refl), (zero, (refl, refl))), refl))
 
-comma_path : (t : Token) → passes comma t ≡ true → path_goes t ≡ false
+pub comma_path : (t : Token) → passes comma t ≡ true → path_goes t ≡ false
 comma_path (Mark Comma) e = refl
 comma_path t e = absurd (let n : ⊥ = cc in n)
 
-close_path : (t : Token) → passes close_mark t ≡ true → path_goes t ≡ false
+pub close_path : (t : Token) → passes close_mark t ≡ true → path_goes t ≡ false
 close_path (Mark Close) e = refl
 close_path t e = absurd (let n : ⊥ = cc in n)
 
@@ -168,7 +168,7 @@ bind_same (Ok x) f g h = h x refl
 bind_same (Err w) f g h = refl
 
 -- a reader that takes one token leaves less
-one_less : {A : Type 0} (f : Token → Option A) (tok : (t : Token) × (a : A) × (f t ≡ Some a)) (ts : List Token) (x : A × List Token) → read_one f ts ≡ Ok x → suc (length x.1) ≡ length ts
+pub one_less : {A : Type 0} (f : Token → Option A) (tok : (t : Token) × (a : A) × (f t ≡ Some a)) (ts : List Token) (x : A × List Token) → read_one f ts ≡ Ok x → suc (length x.1) ≡ length ts
 one_less f tok ts x e =
     let k = (one_law f tok).found ts x e in
     omega (arith, ap length k.1, length-append k.0 x.1, ap length k.2.1)
@@ -179,7 +179,7 @@ step_same r s ts h =
     (ap (λ (z : Read (AName × Rest)). z >>= made longer)
     (bind_same (read_one later_part ts) (second r) (second s) (λ x e. ap (λ (z : Read Rest). z >>= paired x.0) (h x.1 (one_less later_part later_token ts x e)))))
 
-same_tail : (n m : ℕ) (ts : List Token) → length ts ≤ n → length ts ≤ m → read_tail n ts ≡ read_tail m ts
+pub same_tail : (n m : ℕ) (ts : List Token) → length ts ≤ n → length ts ≤ m → read_tail n ts ≡ read_tail m ts
 unfolding read_tail
 same_tail zero zero ts a b = refl
 same_tail zero (suc m) [] a b = refl
@@ -199,10 +199,20 @@ tail_ge zero (suc m) ts v le h = inr h
 tail_ge (suc n) zero ts v le h = absurd (omega arith)
 tail_ge (suc n) (suc m) ts v le h = ⊎_elim
     (λ (h : (One dot ▷ Step n) ts v). let k = h.1 in
-    inl (h.0, (k.0, k.1, k.2, k.3, ⊎_elim
-        (λ (j : Makes (One method) last k.1 h.0.1). inl j)
-        (λ (j : Makes (Then (One later_part) (Tail n)) longer k.1 h.0.1). let i = j.1 in inr (j.0, (i.0, i.1, i.2, i.3, tail_ge n m i.1 j.0.1 (omega arith) i.4), j.2))
-        k.4), h.2))
+    inl (
+      h.0,
+      (
+        k.0,
+        k.1,
+        k.2,
+        k.3,
+        ⊎_elim
+            (λ (j : Makes (One method) last k.1 h.0.1). inl j)
+            (λ (j : Makes (Then (One later_part) (Tail n)) longer k.1 h.0.1). let i = j.1 in inr (j.0, (i.0, i.1, i.2, i.3, tail_ge n m i.1 j.0.1 (omega arith) i.4), j.2))
+            k.4,
+      ),
+      h.2,
+    ))
     (λ (h : Empty plain ts v). inr h)
     h
 
@@ -245,7 +255,7 @@ NotTwo f h ts = begin f h ts ≡ false
 no_first : (f h : Token → Bool) (ts : List Token) → Halts f ts → NotTwo f h ts
 no_first f h ts e = ap (λ (b : Bool). b && begins_second h ts) e
 
-and_false : (b : Bool) → (b && false) ≡ false
+pub and_false : (b : Bool) → (b && false) ≡ false
 and_false true = refl
 and_false false = refl
 
@@ -497,7 +507,7 @@ some_leaf = (Word [] ∷ [], Member ([] ∷ []), inr (inr (([], plain), (Word []
 cross_function : (t : Token) → passes (key (codes "crossjoin")) t ≡ true → passes function t ≡ false
 cross_function = key_function (codes "crossjoin") refl refl refl refl
 
-comma_set : (t : Token) → passes comma t ≡ true → set_goes t ≡ false
+pub comma_set : (t : Token) → passes comma t ≡ true → set_goes t ≡ false
 comma_set (Mark Comma) e = refl
 comma_set t e = absurd (let n : ⊥ = cc in n)
 
