@@ -17,7 +17,7 @@ use Rattle.aso_mdx.specs.Reading.{read_key, read_listed, read_path, read_paths, 
 
 -- ---- parts that many rules have
 
-some_one : {A : Type 0} (f : Token → Option A) → (t : Token) × (a : A) × (f t ≡ Some a) → (ts : List Token) × (a : A) × One f ts a
+pub some_one : {A : Type 0} (f : Token → Option A) → (t : Token) × (a : A) × (f t ≡ Some a) → (ts : List Token) × (a : A) × One f ts a
 some_one f tok = (tok.0 ∷ [], tok.1, (tok.0, refl, tok.2))
 
 -- a text with one token behind it
@@ -26,25 +26,25 @@ closed_law P gp r p f tok apart = as_law (Then P (One f)) Never (read_then r (re
     (then_law P (One f) gp Never r (read_one f) p (one_law f tok) (some_one f tok)
     (λ ys b rest h halts. ap (λ z. begins gp (z ++ rest)) h.1 ∙ apart h.0 (ap is_some h.2)))
 
-some_closed : {A B : Type 0} (P : Lang A) (f : Token → Option B) → (ts : List Token) × (a : A) × P ts a → (t : Token) × (b : B) × (f t ≡ Some b) → (ts : List Token) × (a : A) × (P ◁ One f) ts a
+pub some_closed : {A B : Type 0} (P : Lang A) (f : Token → Option B) → (ts : List Token) × (a : A) × P ts a → (t : Token) × (b : B) × (f t ≡ Some b) → (ts : List Token) × (a : A) × (P ◁ One f) ts a
 some_closed P f some tok = (some.0 ++ tok.0 ∷ [], some.1, ((some.1, tok.1), (some.0, tok.0 ∷ [], refl, some.2, (tok.0, refl, tok.2)), refl))
 
-behind_heads : {A B : Type 0} (f : Token → Option A) (Q : Lang B) (ts : List Token) (b : B) (rest : List Token) → (One f ▷ Q) ts b → begins (passes f) (ts ++ rest) ≡ true
+pub behind_heads : {A B : Type 0} (f : Token → Option A) (Q : Lang B) (ts : List Token) (b : B) (rest : List Token) → (One f ▷ Q) ts b → begins (passes f) (ts ++ rest) ≡ true
 behind_heads f Q ts b rest h = one_heads f Q ts h.0 rest h.1
 
-some_behind : {A B : Type 0} (f : Token → Option A) (Q : Lang B) → (t : Token) × (a : A) × (f t ≡ Some a) → (ts : List Token) × (b : B) × Q ts b → (ts : List Token) × (b : B) × (One f ▷ Q) ts b
+pub some_behind : {A B : Type 0} (f : Token → Option A) (Q : Lang B) → (t : Token) × (a : A) × (f t ≡ Some a) → (ts : List Token) × (b : B) × Q ts b → (ts : List Token) × (b : B) × (One f ▷ Q) ts b
 some_behind f Q tok some = (tok.0 ∷ some.0, some.1, ((tok.1, some.1), (tok.0 ∷ [], some.0, refl, (tok.0, refl, tok.2), some.2), refl))
 
-comma_token : (t : Token) × (a : Unit {0}) × (comma t ≡ Some a)
+pub comma_token : (t : Token) × (a : Unit {0}) × (comma t ≡ Some a)
 comma_token = (Mark Comma, tt, refl)
 
-open_token : (t : Token) × (a : Unit {0}) × (open_mark t ≡ Some a)
+pub open_token : (t : Token) × (a : Unit {0}) × (open_mark t ≡ Some a)
 open_token = (Mark Open, tt, refl)
 
-close_token : (t : Token) × (a : Unit {0}) × (close_mark t ≡ Some a)
+pub close_token : (t : Token) × (a : Unit {0}) × (close_mark t ≡ Some a)
 close_token = (Mark Close, tt, refl)
 
-dot_token : (t : Token) × (a : Unit {0}) × (dot t ≡ Some a)
+pub dot_token : (t : Token) × (a : Unit {0}) × (dot t ≡ Some a)
 dot_token = (Mark Dot, tt, refl)
 
 open_set_token : (t : Token) × (a : Unit {0}) × (open_set t ≡ Some a)
@@ -53,10 +53,10 @@ open_set_token = (Mark OpenSet, tt, refl)
 close_set_token : (t : Token) × (a : Unit {0}) × (close_set t ≡ Some a)
 close_set_token = (Mark CloseSet, tt, refl)
 
-part_token : (t : Token) × (a : AName) × (part t ≡ Some a)
+pub part_token : (t : Token) × (a : AName) × (part t ≡ Some a)
 part_token = (Word [], [], refl)
 
-later_token : (t : Token) × (a : AName) × (later_part t ≡ Some a)
+pub later_token : (t : Token) × (a : AName) × (later_part t ≡ Some a)
 unfolding is_word
 later_token = (Name [], [], refl)
 
@@ -94,11 +94,11 @@ path_law = as_law (Then (One part) (Many (Then (One dot) (One later_part)))) pat
 pub some_path : (ts : List Token) × (a : List AName) × Path ts a
 some_path = (Word [] ∷ [], [] ∷ [], (([], []), (Word [] ∷ [], [], refl, (Word [], refl, refl), (zero, (refl, refl))), refl))
 
-comma_path : (t : Token) → passes comma t ≡ true → path_goes t ≡ false
+pub comma_path : (t : Token) → passes comma t ≡ true → path_goes t ≡ false
 comma_path (Mark Comma) e = refl
 comma_path t e = absurd (let n : ⊥ = cc in n)
 
-close_path : (t : Token) → passes close_mark t ≡ true → path_goes t ≡ false
+pub close_path : (t : Token) → passes close_mark t ≡ true → path_goes t ≡ false
 close_path (Mark Close) e = refl
 close_path t e = absurd (let n : ⊥ = cc in n)
 
@@ -168,7 +168,7 @@ bind_same (Ok x) f g h = h x refl
 bind_same (Err w) f g h = refl
 
 -- a reader that takes one token leaves less
-one_less : {A : Type 0} (f : Token → Option A) (tok : (t : Token) × (a : A) × (f t ≡ Some a)) (ts : List Token) (x : A × List Token) → read_one f ts ≡ Ok x → suc (length x.1) ≡ length ts
+pub one_less : {A : Type 0} (f : Token → Option A) (tok : (t : Token) × (a : A) × (f t ≡ Some a)) (ts : List Token) (x : A × List Token) → read_one f ts ≡ Ok x → suc (length x.1) ≡ length ts
 one_less f tok ts x e =
     let k = (one_law f tok).found ts x e in
     omega (arith, ap length k.1, length-append k.0 x.1, ap length k.2.1)
@@ -179,7 +179,7 @@ step_same r s ts h =
     (ap (λ (z : Read (AName × Rest)). z >>= made longer)
     (bind_same (read_one later_part ts) (second r) (second s) (λ x e. ap (λ (z : Read Rest). z >>= paired x.0) (h x.1 (one_less later_part later_token ts x e)))))
 
-same_tail : (n m : ℕ) (ts : List Token) → length ts ≤ n → length ts ≤ m → read_tail n ts ≡ read_tail m ts
+pub same_tail : (n m : ℕ) (ts : List Token) → length ts ≤ n → length ts ≤ m → read_tail n ts ≡ read_tail m ts
 unfolding read_tail
 same_tail zero zero ts a b = refl
 same_tail zero (suc m) [] a b = refl
@@ -199,10 +199,20 @@ tail_ge zero (suc m) ts v le h = inr h
 tail_ge (suc n) zero ts v le h = absurd (omega arith)
 tail_ge (suc n) (suc m) ts v le h = ⊎_elim
     (λ (h : (One dot ▷ Step n) ts v). let k = h.1 in
-    inl (h.0, (k.0, k.1, k.2, k.3, ⊎_elim
-        (λ (j : Makes (One method) last k.1 h.0.1). inl j)
-        (λ (j : Makes (Then (One later_part) (Tail n)) longer k.1 h.0.1). let i = j.1 in inr (j.0, (i.0, i.1, i.2, i.3, tail_ge n m i.1 j.0.1 (omega arith) i.4), j.2))
-        k.4), h.2))
+    inl (
+      h.0,
+      (
+        k.0,
+        k.1,
+        k.2,
+        k.3,
+        ⊎_elim
+            (λ (j : Makes (One method) last k.1 h.0.1). inl j)
+            (λ (j : Makes (Then (One later_part) (Tail n)) longer k.1 h.0.1). let i = j.1 in inr (j.0, (i.0, i.1, i.2, i.3, tail_ge n m i.1 j.0.1 (omega arith) i.4), j.2))
+            k.4,
+      ),
+      h.2,
+    ))
     (λ (h : Empty plain ts v). inr h)
     h
 
@@ -242,10 +252,10 @@ Two f h ts = begin f h ts ≡ true
 abbrev pub NotTwo : (Token → Bool) → (Token → Bool) → List Token → Type 0
 NotTwo f h ts = begin f h ts ≡ false
 
-no_first : (f h : Token → Bool) (ts : List Token) → Halts f ts → NotTwo f h ts
+pub no_first : (f h : Token → Bool) (ts : List Token) → Halts f ts → NotTwo f h ts
 no_first f h ts e = ap (λ (b : Bool). b && begins_second h ts) e
 
-and_false : (b : Bool) → (b && false) ≡ false
+pub and_false : (b : Bool) → (b && false) ≡ false
 and_false true = refl
 and_false false = refl
 
@@ -312,14 +322,14 @@ unfolding is_word
 word_part w (Word text) h = refl
 word_part w t h = absurd (let n : ⊥ = cc in n)
 
-known_is : {A : Type 0} (b : Bool) (a : A) → is_some (known b a) ≡ true → b ≡ true
+pub known_is : {A : Type 0} (b : Bool) (a : A) → is_some (known b a) ≡ true → b ≡ true
 known_is true a e = refl
 known_is false a e = absurd (let n : ⊥ = cc in n)
 
 known_not : {A : Type 0} (b : Bool) (a : A) → b ≡ false → is_some (known b a) ≡ false
 known_not b a e = ap (λ (c : Bool). is_some (known c a)) e
 
-key_part : (w : List ℕ) (t : Token) → passes (key w) t ≡ true → passes part t ≡ true
+pub key_part : (w : List ℕ) (t : Token) → passes (key w) t ≡ true → passes part t ≡ true
 key_part w t h = word_part w t (known_is (is_word w t) tt h)
 
 function_part : (t : Token) → passes function t ≡ true → passes part t ≡ true
@@ -332,7 +342,7 @@ not_function : (a b c d : Bool) → a ≡ false → b ≡ false → c ≡ false 
 not_function a b c d ea eb ec ed = rw (ea, eb, ec, ed) refl
 
 -- a word that no function has
-key_function : (w : List ℕ) → str_eq_ignore_ascii_case w (codes "children") ≡ false → str_eq_ignore_ascii_case w (codes "members") ≡ false → str_eq_ignore_ascii_case w (codes "descendants") ≡ false → str_eq_ignore_ascii_case w (codes "leaves") ≡ false
+pub key_function : (w : List ℕ) → str_eq_ignore_ascii_case w (codes "children") ≡ false → str_eq_ignore_ascii_case w (codes "members") ≡ false → str_eq_ignore_ascii_case w (codes "descendants") ≡ false → str_eq_ignore_ascii_case w (codes "leaves") ≡ false
     → (t : Token) → passes (key w) t ≡ true → passes function t ≡ false
 key_function w a b c d t h =
     let is = known_is (is_word w t) tt h in
@@ -347,23 +357,23 @@ true_or_false true = inl refl
 true_or_false false = inr refl
 
 -- a function's word isn't this one
-function_key : (w : List ℕ) → ((t : Token) → passes (key w) t ≡ true → passes function t ≡ false) → (t : Token) → passes function t ≡ true → passes (key w) t ≡ false
+pub function_key : (w : List ℕ) → ((t : Token) → passes (key w) t ≡ true → passes function t ≡ false) → (t : Token) → passes function t ≡ true → passes (key w) t ≡ false
 function_key w apart t h = ⊎_elim
     (λ (k : passes (key w) t ≡ true). absurd (let e : true ≡ false = sym h ∙ apart t k in let n : ⊥ = cc in n))
     (λ (k : passes (key w) t ≡ false). k)
     (true_or_false (passes (key w) t))
 
-part_open : (t : Token) → passes part t ≡ true → passes open_mark t ≡ false
+pub part_open : (t : Token) → passes part t ≡ true → passes open_mark t ≡ false
 part_open (Word text) e = refl
 part_open (Name text) e = refl
 part_open t e = absurd (let n : ⊥ = cc in n)
 
-part_open_set : (t : Token) → passes part t ≡ true → passes open_set t ≡ false
+pub part_open_set : (t : Token) → passes part t ≡ true → passes open_set t ≡ false
 part_open_set (Word text) e = refl
 part_open_set (Name text) e = refl
 part_open_set t e = absurd (let n : ⊥ = cc in n)
 
-part_dot : (t : Token) → passes part t ≡ true → passes dot t ≡ false
+pub part_dot : (t : Token) → passes part t ≡ true → passes dot t ≡ false
 part_dot (Word text) e = refl
 part_dot (Name text) e = refl
 part_dot t e = absurd (let n : ⊥ = cc in n)
@@ -380,7 +390,7 @@ open_dot : (t : Token) → passes open_mark t ≡ true → passes dot t ≡ fals
 open_dot (Mark Open) e = refl
 open_dot t e = absurd (let n : ⊥ = cc in n)
 
-open_key : (w : List ℕ) (t : Token) → passes open_mark t ≡ true → passes (key w) t ≡ false
+pub open_key : (w : List ℕ) (t : Token) → passes open_mark t ≡ true → passes (key w) t ≡ false
 unfolding is_word
 open_key w (Mark Open) e = refl
 open_key w t e = absurd (let n : ⊥ = cc in n)
@@ -469,7 +479,7 @@ leaf_brace ts a rest s = ⊎_elim
     k)
     s
 
-leaf_full : (a : SetText) → Leaf [] a → ⊥
+pub leaf_full : (a : SetText) → Leaf [] a → ⊥
 leaf_full a s = ⊎_elim
     (λ (k : Makes Paths Tuple [] a). let e : false ≡ true = tuple_heads [] a [] k in let n : ⊥ = cc in n)
     (λ (k : Or Call Dotted [] a). ⊎_elim
@@ -497,7 +507,7 @@ some_leaf = (Word [] ∷ [], Member ([] ∷ []), inr (inr (([], plain), (Word []
 cross_function : (t : Token) → passes (key (codes "crossjoin")) t ≡ true → passes function t ≡ false
 cross_function = key_function (codes "crossjoin") refl refl refl refl
 
-comma_set : (t : Token) → passes comma t ≡ true → set_goes t ≡ false
+pub comma_set : (t : Token) → passes comma t ≡ true → set_goes t ≡ false
 comma_set (Mark Comma) e = refl
 comma_set t e = absurd (let n : ⊥ = cc in n)
 
@@ -540,10 +550,10 @@ module _ (S : Lang SetText) (r : List Token → Read SetText) (law : Law S set_g
       (left_never (Key (codes "crossjoin")) (One open_mark) Never (read_key (codes "crossjoin")) (read_one open_mark) (one_law cross_word cross_token) (one_law open_mark open_token) (some_one open_mark open_token))
       sides_law some_sides)
 
-  braces_heads : (ts : List Token) (a : SetText) (rest : List Token) → InBraces S ts a → begins (passes open_set) (ts ++ rest) ≡ true
+  pub braces_heads : (ts : List Token) (a : SetText) (rest : List Token) → InBraces S ts a → begins (passes open_set) (ts ++ rest) ≡ true
   braces_heads ts a rest h = behind_heads open_set (Listed S ◁ One close_set) ts h.0 rest h.1
 
-  crossing_heads : (ts : List Token) (a : SetText) (rest : List Token) → Crossing S ts a → begins (passes cross_word) (ts ++ rest) ≡ true
+  pub crossing_heads : (ts : List Token) (a : SetText) (rest : List Token) → Crossing S ts a → begins (passes cross_word) (ts ++ rest) ≡ true
   crossing_heads ts a rest h =
       let k = h.1 in
       let j = k.3.1 in

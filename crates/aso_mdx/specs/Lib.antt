@@ -1,3 +1,4 @@
+pub mod Answer
 pub mod Grammar
 pub mod Reading
 pub mod Shapes
