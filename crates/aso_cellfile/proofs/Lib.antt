@@ -4,3 +4,4 @@ pub mod Examples
 pub mod Layouts
 pub mod Powers
 pub mod Sealed
+pub mod Spans
