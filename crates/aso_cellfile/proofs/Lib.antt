@@ -5,3 +5,4 @@ pub mod Layouts
 pub mod Powers
 pub mod Sealed
 pub mod Spans
+pub mod Unique

@@ -4,12 +4,10 @@ use Rattle.std.proofs.lemmas.Option.{slice_get-get_or, slice_get-map, slice_get_
 use Rattle.aso_cellfile.specs.declared.entry.Entry.{Entry as Placed}
 use Rattle.aso_cellfile.specs.Entries.{pair_of, pairs_of}
 use Rattle.std.specs.Prelude.{◌/◌, get_or, option_map, min, IfSome, Option, Some, None, slice_get}
-use Rattle.aso_disk.specs.Slots.{piece}
 use Rattle.aso_runs.specs.Runs.{Entries}
 use Rattle.aso_cellfile.specs.Block.{IsBlock}
 use Rattle.aso_cellfile.specs.File.{Entry, greatest}
 use Rattle.aso_cellfile.specs.Opened.{Filed, AreEntries, IsIndex, blocks_of, place_or, key_or, IsBlockAt, IsSpan}
-use Rattle.aso_cellfile.proofs.Sealed.{if_map}
 
 -- a block lies between its place and the next one's, and its keys below the next one's
 pub record Lies (most end : ℕ) (e : Entry) (next : Option Entry) : Type 0 where
@@ -47,37 +45,6 @@ next_above bits count end entries n next is lt at =
     let l = lies bits count end entries n e is (slice_get-get_or entries n next lt) in
     let k : e.1 < next.1 = subst (λ (o : Option Entry). e.1 < key_or (greatest bits) o) at l.keys in
     omega (arith, k)
-
--- what was read there, where the file's bytes are told
-pub found : (f : Filed) (n begins ends count first most : ℕ) (cells : Entries) (bytes : List ℕ) (size : ℕ) → IsSpan f n begins ends count first most → size ≡ ends - begins
-    → IfSome f.told (λ (all : List ℕ). bytes ≡ piece begins size all) → IsBlock count first most cells bytes → IfSome f.told (IsBlockAt f n cells)
-found f n begins ends count first most cells bytes size s z told block =
-    if_map f.told (λ (all : List ℕ). bytes ≡ piece begins size all) (IsBlockAt f n cells) told (λ all is. record {
-      begins = begins;
-      first = first;
-      entry = s.entry;
-      block = subst (λ (e : ℕ). IsBlock (min 4096 (f.count - 4096 * n)) first (key_or (greatest f.bits) (slice_get f.entries (n + 1)) - 1) cells (piece begins (e - begins) all)) s.stops
-          (subst (λ (m : ℕ). IsBlock (min 4096 (f.count - 4096 * n)) first m cells (piece begins (ends - begins) all)) s.up_to
-          (subst (λ (k : ℕ). IsBlock k first most cells (piece begins (ends - begins) all)) s.counted
-          (subst (λ (k : ℕ). IsBlock count first most cells (piece begins k all)) z (subst (λ (l : List ℕ). IsBlock count first most cells l) is block))));
-    })
-
-pub bad : (f : Filed) (n begins ends count first most : ℕ) (bytes : List ℕ) (size : ℕ) → IsSpan f n begins ends count first most → size ≡ ends - begins
-    → IfSome f.told (λ (all : List ℕ). bytes ≡ piece begins size all) → ((cells : Entries) → IsBlock count first most cells bytes → ⊥) → IfSome f.told (λ (all : List ℕ). (cells : Entries) → IsBlockAt f n cells all → ⊥)
-bad f n begins ends count first most bytes size s z told none =
-    if_map f.told (λ (all : List ℕ). bytes ≡ piece begins size all) (λ (all : List ℕ). (cells : Entries) → IsBlockAt f n cells all → ⊥) told (λ all is cells at.
-    let same = same_some at.begins at.first begins first (sym at.entry ∙ s.entry) in
-    let b = at.block in
-    let b1 = subst (λ (x : ℕ). IsBlock (min 4096 (f.count - 4096 * n)) at.first (key_or (greatest f.bits) (slice_get f.entries (n + 1)) - 1) cells (piece x (place_or f.place (slice_get f.entries (n + 1)) - x) all)) same.0 b in
-    let b2 = subst (λ (x : ℕ). IsBlock (min 4096 (f.count - 4096 * n)) x (key_or (greatest f.bits) (slice_get f.entries (n + 1)) - 1) cells (piece begins (place_or f.place (slice_get f.entries (n + 1)) - begins) all)) same.1 b1 in
-    let b3 = subst (λ (e : ℕ). IsBlock (min 4096 (f.count - 4096 * n)) first (key_or (greatest f.bits) (slice_get f.entries (n + 1)) - 1) cells (piece begins (e - begins) all)) (sym s.stops) b2 in
-    let b4 = subst (λ (m : ℕ). IsBlock (min 4096 (f.count - 4096 * n)) first m cells (piece begins (ends - begins) all)) (sym s.up_to) b3 in
-    let b5 = subst (λ (k : ℕ). IsBlock k first most cells (piece begins (ends - begins) all)) (sym s.counted) b4 in
-    let b6 = subst (λ (k : ℕ). IsBlock count first most cells (piece begins k all)) (sym z) b5 in
-    none cells (subst (λ (l : List ℕ). IsBlock count first most cells l) (sym is) b6))
-  where
-    same_some : (a b x y : ℕ) → ◌≡◌ {A = Option Entry} (Some (a, b)) (Some (x, y)) → (a ≡ x) × (b ≡ y)
-    same_some a b x y p = let q : ◌≡◌ {A = Entry} (a, b) (x, y) = cc in (ap (λ (e : Entry). e.0) q, ap (λ (e : Entry). e.1) q)
 
 -- an entry of the index in memory
 pub entry_at : {W : ℕ} (items : List (Placed W)) (i : ℕ) (e : Placed W) → i < length items → e ≡ get_or items i e → slice_get (pairs_of items) i ≡ Some (pair_of e)
