@@ -18,3 +18,6 @@ pub use ids::Ids;
 pub use law::{example, example_without_cells, one_spelling};
 pub use steps::Steps;
 pub use writer::Writer;
+
+#[cfg(test)]
+mod tests;
