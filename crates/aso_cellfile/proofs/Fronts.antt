@@ -67,6 +67,8 @@ rest_is xs k = let long : length (drop k xs) ≤ length xs - k = omega (arith, l
 -- a cell that was put
 pub appended : (least before distance : ℕ) (c : ℕ × ℤ) (old half new : List ℕ) → before + least ≤ c.0 → distance + before ≡ c.0
     → Appends (λ (s : List ℕ). IsLeb s distance) old half → Appends (λ (s : List ℕ). IsZig s c.1) half new → Appends (IsCell least before c) old new
-appended least before distance c old half new rises is a b =
-    (a.0 ++ b.0, record { rises = rises; key = a.0; amount = b.0; distance = let e : distance ≡ c.0 - before = omega arith in subst (λ (n : ℕ). IsLeb a.0 n) e a.1; units = b.1; joined = refl },
-     b.2 ∙ ap (λ (l : List ℕ). l ++ b.0) a.2 ∙ append_assoc old a.0 b.0)
+appended least before distance c old half new rises is a b = (
+  a.0 ++ b.0,
+  record { rises = rises; key = a.0; amount = b.0; distance = let e : distance ≡ c.0 - before = omega arith in subst (λ (n : ℕ). IsLeb a.0 n) e a.1; units = b.1; joined = refl },
+  b.2 ∙ ap (λ (l : List ℕ). l ++ b.0) a.2 ∙ append_assoc old a.0 b.0,
+)

@@ -48,9 +48,13 @@ after_block least before (d ∷ ds) (e ∷ es) key some p = subst (λ (k : ℕ).
 
 snoc : (least before : ℕ) (cells : Entries) (c : ℕ × ℤ) (x front : List ℕ) → AreCells least before cells x → (length cells ≡ 0 → IsCell least before c front) → (0 < length cells → IsCell 1 (last_key before cells) c front) → AreCells least before (cells ++ c ∷ []) (x ++ front)
 snoc least before [] c x front p none some = (front, [], none refl, ap (λ (l : List ℕ). l ++ front) p ∙ sym (append-nil front), refl)
-snoc least before (d ∷ ds) c x front p none some =
-    (p.0, p.1 ++ front, p.2, ap (λ (l : List ℕ). l ++ front) p.3 ∙ append_assoc p.0 p.1 front,
-     snoc 1 d.0 ds c p.1 front p.4 (λ e. subst (λ (l : Entries). IsCell 1 (last_key d.0 l) c front) (nil ds e) (some (omega arith))) (λ _. some (omega arith)))
+snoc least before (d ∷ ds) c x front p none some = (
+  p.0,
+  p.1 ++ front,
+  p.2,
+  ap (λ (l : List ℕ). l ++ front) p.3 ∙ append_assoc p.0 p.1 front,
+  snoc 1 d.0 ds c p.1 front p.4 (λ e. subst (λ (l : Entries). IsCell 1 (last_key d.0 l) c front) (nil ds e) (some (omega arith))) (λ _. some (omega arith)),
+)
   where
     nil : (l : Entries) → length l ≡ 0 → l ≡ []
     nil [] e = refl
@@ -321,9 +325,9 @@ pub behind : (count total last key before : ℕ) → (count ≡ 0 → before ≡
 behind count total last key before none some first above = elim (leb_tells count 0) [
   | inl n ↦ let h = none (omega (arith, n.1)) in omega (arith, h)
   | inr n ↦ let h = some n.1 in elim (leb_tells total 0) [
-      | inl m ↦ let k = first (omega (arith, m.1)) in omega (arith, h, k)
-      | inr m ↦ let k = above m.1 in omega (arith, h, k)
-    ]
+    | inl m ↦ let k = first (omega (arith, m.1)) in omega (arith, h, k)
+    | inr m ↦ let k = above m.1 in omega (arith, h, k)
+  ]
 ]
 
 -- ---- a writer between two calls

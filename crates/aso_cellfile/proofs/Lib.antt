@@ -4,3 +4,5 @@ pub mod Examples
 pub mod Layouts
 pub mod Powers
 pub mod Sealed
+pub mod Spans
+pub mod Unique

@@ -4,7 +4,6 @@ use Rattle.aso_cellfile.specs.Block.{IsCell, AreCells, weight, heaviest, AreUpTo
 use Rattle.aso_runs.specs.Runs.{Entries as Cells}
 use Rattle.aso_cellfile.proofs.Fronts.{same_cell}
 
-
 -- a cell in front of those behind it
 pub more : (least before most room : ℕ) (c : ℕ × ℤ) (cells : Cells) (front rest bytes : List ℕ)
     → IsCell least before c front → bytes ≡ front ++ rest → c.0 ≤ most → unsigned_abs c.1 ≤ room
@@ -28,12 +27,17 @@ behind least before most room size c (d ∷ others) bytes is some h = from (same
     from : (d ≡ c) × (h.spelled.1 ≡ drop size bytes) → (o : Cells) × (d ∷ others ≡ c ∷ o) × (c.0 ≤ most) × (unsigned_abs c.1 ≤ room) × Holds 1 c.0 most (room - unsigned_abs c.1) o (drop size bytes)
     from e =
         let light : unsigned_abs d.1 + weight others ≤ room = h.light in
-        subst (λ (x : ℕ × ℤ). (o : Cells) × (d ∷ others ≡ x ∷ o) × (x.0 ≤ most) × (unsigned_abs x.1 ≤ room) × Holds 1 x.0 most (room - unsigned_abs x.1) o (drop size bytes)) e.0
-        (others, refl, h.bounded.0, omega arith, record {
-          spelled = subst (λ (l : List ℕ). AreCells 1 d.0 others l) e.1 h.spelled.4;
-          bounded = h.bounded.1;
-          light = omega arith;
-        })
+        subst (λ (x : ℕ × ℤ). (o : Cells) × (d ∷ others ≡ x ∷ o) × (x.0 ≤ most) × (unsigned_abs x.1 ≤ room) × Holds 1 x.0 most (room - unsigned_abs x.1) o (drop size bytes)) e.0 (
+          others,
+          refl,
+          h.bounded.0,
+          omega arith,
+          record {
+            spelled = subst (λ (l : List ℕ). AreCells 1 d.0 others l) e.1 h.spelled.4;
+            bounded = h.bounded.1;
+            light = omega arith;
+          },
+        )
 
 -- how far a block has been read
 pub record Progress (count most turn least before room : ℕ) (done : Cells) (bytes rest : List ℕ) : Type 0 where

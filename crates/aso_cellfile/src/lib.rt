@@ -5,6 +5,8 @@ mod block;
 mod entry;
 mod fault;
 mod file;
+mod ids;
+mod law;
 mod sealing;
 mod steps;
 mod writer;
@@ -12,5 +14,10 @@ mod writer;
 pub use block::decode;
 pub use fault::{BlockFault, OpenFault, WriteFault};
 pub use file::CellFile;
+pub use ids::Ids;
+pub use law::{example, example_without_cells, one_spelling};
 pub use steps::Steps;
 pub use writer::Writer;
+
+#[cfg(test)]
+mod tests;

@@ -53,5 +53,5 @@ returns-clause-found g c =
     let made : c.in-Some.step ≡ c.in-Some-from_u128.distance = search (rules, c.in-Some-from_u128.ensures) in
     let summed : c.in-Some-plus.key ≡ c.args.before.now + c.in-Some-from_u128.distance = search (rules, c.in-Some-plus.ensures) in
     let all = joined c.args.least c.args.before.now c.in-Some.step c.in-Some.size c.in-Some-take_zig.more c.in-Some-plus.key z bytes (omega arith)
-      (omega (arith, made, summed)) c.in-Some.ensures.found zig_there in
+    (omega (arith, made, summed)) c.in-Some.ensures.found zig_there in
     subst (λ (y : ℤ). IsCell c.args.least c.args.before.now (c.in-Some-plus.key, y) (take (c.in-Some.size + c.in-Some-take_zig.more) bytes)) (sym (to_z-of_z w128 z fits)) all

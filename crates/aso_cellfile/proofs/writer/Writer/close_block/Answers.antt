@@ -14,7 +14,7 @@ overflow_add-self g c =
     let blocks = c.requires.stands.0 in
     let draft = c.requires.stands.1 in
     let lays : Lays g.row.W (record { id = i.id; bits = i.bits; told = g.S.Shelf.written i.file; size = g.S.Shelf.written_size i.file; entries = pairs_of i.entries.items; place = i.place; total = i.total; last = i.last; text = i.text.items; first = i.first; count = i.count; room = i.room }) blocks draft
-      = subst (λ (v : Making). Lays g.row.W v blocks draft) (sym c.self.view_is) c.requires.stands.2 in
+    = subst (λ (v : Making). Lays g.row.W v blocks draft) (sym c.self.view_is) c.requires.stands.2 in
     let narrow : i.bits ≤ 128 = c.self.invariant.3 in
     let most = lays_length g.row.W i.id i.bits (g.S.Shelf.written_size i.file) i.place i.total i.last i.first i.count i.room (g.S.Shelf.written i.file) (pairs_of i.entries.items) i.text.items blocks draft lays (narrow_bits i.bits narrow) in
     let few : i.total < 4294967296 = search (rules, c.self.ranges) in
@@ -25,7 +25,7 @@ pub returns-clause-lays : goal.returns-clause-lays
 returns-clause-lays g c = λ blocks draft lays.
     let i = c.self.inside in
     let w : Lays g.row.W (record { id = i.id; bits = i.bits; told = g.S.Shelf.written i.file; size = g.S.Shelf.written_size i.file; entries = pairs_of i.entries.items; place = i.place; total = i.total; last = i.last; text = i.text.items; first = i.first; count = i.count; room = i.room }) blocks draft
-      = subst (λ (v : Making). Lays g.row.W v blocks draft) (sym c.self.view_is) lays in
+    = subst (λ (v : Making). Lays g.row.W v blocks draft) (sym c.self.view_is) lays in
     let same : c.args.self.now.text ≡ i.text.items = ap (λ (v : Making). v.text) (sym c.self.view_is) in
     let count : c.args.self.now.count ≡ i.count = ap (λ (v : Making). v.count) (sym c.self.view_is) in
     let some : 0 < i.count = omega (arith, count, c.requires.some) in
@@ -36,4 +36,4 @@ returns-clause-lays g c = λ blocks draft lays.
     let empty : c.clear.new.self.items ≡ [] = c.clear.ensures.items in
     subst (λ (t : List ℕ). Lays g.row.W (record { id = i.id; bits = i.bits; told = g.S.Shelf.written c.append.new.file; size = g.S.Shelf.written_size c.append.new.file; entries = pairs_of c.push.new.self.items; place = i.place + c.len.result; total = i.total; last = i.last; text = c.clear.new.self.items; first = i.first; count = 0; room = 10000000000000000000000000000 }) (blocks ++ (draft, t) ∷ []) []) (sym same)
     (close_lays g.row.W i.id i.bits (g.S.Shelf.written_size i.file) i.place i.total i.last i.first i.count i.room (g.S.Shelf.written i.file) (pairs_of i.entries.items) i.text.items blocks draft
-      (g.S.Shelf.written c.append.new.file) (g.S.Shelf.written_size c.append.new.file) (i.place + c.len.result) (pairs_of c.push.new.self.items) c.clear.new.self.items w some told size place pushed empty)
+    (g.S.Shelf.written c.append.new.file) (g.S.Shelf.written_size c.append.new.file) (i.place + c.len.result) (pairs_of c.push.new.self.items) c.clear.new.self.items w some told size place pushed empty)

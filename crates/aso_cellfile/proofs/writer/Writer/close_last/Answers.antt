@@ -15,4 +15,3 @@ pub returns-clause-closed : goal.returns-clause-closed
 returns-clause-closed g c = λ cells is.
     let count : c.args.self.now.count ≡ c.self.inside.count = ap (λ (v : Making). v.count) (sym c.self.view_is) in
     closed_now g.row.W c.args.self.now c.close_block.new.self cells c.args.self.now.text is (omega (arith, count)) (c.in_ok-close_block.ensures.lays is.blocks is.draft is.lays)
-

@@ -15,4 +15,4 @@ returns-clause-stands g c =
     let size : g.S.Shelf.written_size c.append.new.file ≡ 8 = search (rules, c.in_ok-append.ensures.size, head, none) in
     let told = told_head (g.S.Shelf.files c.args.shelf.now) (g.S.Shelf.written c.in_ok-file.file) (g.S.Shelf.written c.append.new.file) (header g.row.W c.args.bits) empty more in
     starts_empty g.row.W c.args.id c.args.bits (g.S.Shelf.written_size c.append.new.file) c.zero.result c.zero-2.result (g.S.Shelf.written c.append.new.file) (pairs_of c.new.result.items) c.new-2.result.items
-      told size (ap pairs_of c.new.ensures.items) c.zero.ensures c.new-2.ensures.items
+    told size (ap pairs_of c.new.ensures.items) c.zero.ensures c.new-2.ensures.items

@@ -19,7 +19,7 @@ put_cell-requires g c =
     let few : g.row.W ≤ 4 = c.self.invariant.1 in
     let first : i.count ≡ 0 → c.chosen-before.result ≡ 0 = λ n. c.chosen-before.ensures.none n ∙ c.zero.ensures in
     let order : c.chosen-before.result ≤ c.args.cell.now.key = behind i.count i.total i.last c.args.cell.now.key c.chosen-before.result first c.chosen-before.ensures.some
-      (λ n. let h = c.requires.none (omega (arith, n, total)) in omega (arith, h, last)) (λ n. let h = c.requires.above (omega (arith, n, total)) in omega (arith, h, last)) in
+    (λ n. let h = c.requires.none (omega (arith, n, total)) in omega (arith, h, last)) (λ n. let h = c.requires.above (omega (arith, n, total)) in omega (arith, h, last)) in
     let narrow : i.bits ≤ 128 = c.self.invariant.3 in
     let most = narrow_bits c.args.self.now.bits (omega (arith, narrow, bits)) in
     let within = c.requires.within in
@@ -29,7 +29,7 @@ pub returns-clause-lays : goal.returns-clause-lays
 returns-clause-lays g c = λ blocks draft full lays.
     let i = c.self.inside in
     let w : Lays g.row.W (record { id = i.id; bits = i.bits; told = g.S.Shelf.written i.file; size = g.S.Shelf.written_size i.file; entries = pairs_of i.entries.items; place = i.place; total = i.total; last = i.last; text = i.text.items; first = i.first; count = i.count; room = i.room }) blocks draft
-      = subst (λ (v : Making). Lays g.row.W v blocks draft) (sym c.self.view_is) lays in
+    = subst (λ (v : Making). Lays g.row.W v blocks draft) (sym c.self.view_is) lays in
     let key = c.args.cell.now.key in
     let z = c.args.cell.now.amount in
     let total : c.args.self.now.total ≡ i.total = ap (λ (v : Making). v.total) (sym c.self.view_is) in
@@ -44,6 +44,6 @@ returns-clause-lays g c = λ blocks draft full lays.
     let new : c.put_cell.new.out.items ≡ i.text.items ++ p.0 = p.2 in
     subst (λ (t : List ℕ). Lays g.row.W (record { id = i.id; bits = i.bits; told = g.S.Shelf.written i.file; size = g.S.Shelf.written_size i.file; entries = pairs_of i.entries.items; place = i.place; total = i.total + 1; last = key; text = t; first = c.chosen-self-inside.result; count = i.count + 1; room = i.room - c.unsigned_abs.result }) blocks (draft ++ (key, z) ∷ [])) (sym new)
     (put_lays g.row.W i.id i.bits (g.S.Shelf.written_size i.file) i.place i.total i.last i.first i.count i.room (g.S.Shelf.written i.file) (pairs_of i.entries.items) i.text.items blocks draft
-      p.0 (key, z) c.chosen-before.result c.chosen-self-inside.result c.unsigned_abs.result full w
-      (λ n. c.chosen-before.ensures.none n ∙ c.zero.ensures) c.chosen-before.ensures.some c.chosen-self-inside.ensures.none c.chosen-self-inside.ensures.some
-      p.1 (λ n. let h = c.requires.above (omega (arith, n, total)) in omega (arith, h, last)) within value (omega (arith, light, value)))
+    p.0 (key, z) c.chosen-before.result c.chosen-self-inside.result c.unsigned_abs.result full w
+    (λ n. c.chosen-before.ensures.none n ∙ c.zero.ensures) c.chosen-before.ensures.some c.chosen-self-inside.ensures.none c.chosen-self-inside.ensures.some
+    p.1 (λ n. let h = c.requires.above (omega (arith, n, total)) in omega (arith, h, last)) within value (omega (arith, light, value)))
