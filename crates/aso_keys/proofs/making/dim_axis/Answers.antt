@@ -1,6 +1,4 @@
-use Rattle.std.proofs.Common.{rules, ◌≡◌, ◌∙◌, ap}
-use Rattle.aso_outline.specs.Classes.{class_at, classes_at, leaf_count}
-use Rattle.aso_keys.specs.Views.{Choice, choice_at}
+use Rattle.aso_keys.specs.Views.{choice_at}
 use Rattle.aso_keys.proofs.MakingLemmas.{axis_is}
 use Rattle.aso_keys.proofs.making.dim_axis.Goals as goal
 

@@ -1,5 +1,4 @@
-use Rattle.std.proofs.Common.{rules, arith, ◌≡◌, ◌∙◌, ◌+◌, ◌-◌, ◌/◌, ◌<◌, ◌≤◌, ℕ, length, sym, true, false}
-use Rattle.aso_outline.specs.Members.{seats}
+use Rattle.std.proofs.Common.{arith, ◌≡◌, ◌∙◌, ◌+◌, ◌-◌, ◌/◌, ◌<◌, sym, true, false}
 use Rattle.aso_outline.specs.Numbers.{seat_of}
 use Rattle.aso_keys.specs.Ranges.{stands_before}
 use Rattle.aso_keys.proofs.RangeLemmas.{all_low, all_high}

@@ -1,4 +1,4 @@
-use Rattle.std.proofs.Common.{◌≡◌, ◌∙◌, sym}
+use Rattle.std.proofs.Common.{◌∙◌, sym}
 use Rattle.aso_keys.proofs.RangeLemmas.{ranged}
 use Rattle.aso_keys.proofs.ranges.range_of.Goals as goal
 

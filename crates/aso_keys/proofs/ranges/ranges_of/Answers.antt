@@ -1,4 +1,4 @@
-use Rattle.std.proofs.Common.{rules, arith, ◌≡◌, ◌∙◌, ◌+◌, ◌-◌, ◌<◌, ◌≤◌, ℕ, List, length, sym, ap, subst}
+use Rattle.std.proofs.Common.{rules, arith, ◌≡◌, ◌∙◌, ◌+◌, ◌-◌, ◌≤◌, ℕ, List, length, sym, ap, subst}
 use Rattle.std.specs.Prelude.{Option, slice_get}
 use Rattle.aso_keys.specs.Axes.{found}
 use Rattle.aso_keys.specs.Ranges.{IsRangeOf}
