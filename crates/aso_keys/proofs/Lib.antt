@@ -5,3 +5,4 @@ pub mod ViewLemmas
 pub mod MakingLemmas
 pub mod CoarserLemmas
 pub mod WidthLemmas
+pub mod RangeLemmas

@@ -1,5 +1,5 @@
 -- A layout in the making, from the last dimension.
-use Rattle.std.proofs.Common.{◌≡◌, ◌≢◌, ℕ, zero, suc, ◌+◌, ◌-◌, ◌*◌, ◌^◌, ◌<◌, ◌≤◌, ◌⊎◌, inl, inr, ⊎_elim, List, [], ◌∷◌, ◌++◌, length, reverse, refl, sym, ◌∙◌, ap, subst, arith, length-append}
+use Rattle.std.proofs.Common.{◌≡◌, ℕ, zero, suc, ◌+◌, ◌-◌, ◌*◌, ◌^◌, ◌<◌, ◌≤◌, ◌⊎◌, inl, inr, List, [], ◌∷◌, ◌++◌, length, reverse, refl, sym, ◌∙◌, ap, subst, arith}
 use Rattle.std.specs.Prelude.{Option, Some, None, IfSome, IfOk, Result, Ok, Err, map}
 use Rattle.aso_outline.specs.Classes.{class_at, classes_at, leaf_count}
 use Rattle.std.specs.List.{range_with_len}
@@ -9,8 +9,10 @@ use Rattle.aso_outline.specs.declared.draft.Draft.{Draft}
 use Rattle.aso_outline.specs.Heights.{top_of}
 use Rattle.aso_outline.specs.Members.{dim_at}
 use Rattle.aso_keys.specs.declared.axis.Axis.{Axis}
-use Rattle.aso_keys.specs.Axes.{found, entry, AreBelow, bits_of, IsAxis, ArePlaced}
+use Rattle.aso_keys.specs.declared.axis.Ranges.{Ranges}
+use Rattle.aso_keys.specs.Axes.{found, entry, range_at, AreBelow, bits_of, IsAxis, ArePlaced}
 use Rattle.aso_keys.specs.Layouts.{IsAxisOf, AreAxes, IsLayout}
+use Rattle.aso_keys.specs.Ranges.{IsRangeOf}
 use Rattle.aso_keys.specs.Views.{Choice, choice_at, IsChoice}
 
 -- ---- classes
@@ -96,8 +98,12 @@ building_all o xs dims back bits axes long done built =
 pub as_long : (f : ℕ → Option ℕ) (n count : ℕ) (all : List (Option ℕ)) → n < 2 ^ 32 → n ≡ count → all ≡ map f (range_with_len 0 count) → length all < 2 ^ 32
 as_long f n count all small same is = omega (arith, ap (λ (l : List (Option ℕ)). length l) is, length-map-range_with_len f 0 count, same, small)
 
-pub axis_is : {E : Type 0} (o : Draft) (d count : ℕ) (x choice : Choice) (classes : List (Option ℕ)) (r : Result Axis E) → IfOk r (λ (a : Axis). a.classes ≡ classes) → IfOk r (λ (a : Axis). a.count ≡ count)
-    → classes ≡ map (class_at o d x.0 x.1) (range_with_len 0 (leaf_count o d)) → count ≡ classes_at o d x.0 x.1 → x ≡ choice → IfOk r (IsAxisOf o d choice)
-axis_is {E} o d count x choice classes (Ok a) same many are counted is =
-    subst (λ (y : Choice). IsAxisOf o d y a) is (record { count = many ∙ counted; classes = same ∙ are })
-axis_is {E} o d count x choice classes (Err e) same many are counted is = tt
+pub axis_is : {E : Type 0} (o : Draft) (d count : ℕ) (x choice : Choice) (classes : List (Option ℕ)) (ranges : Ranges) (r : Result Axis E) → IfOk r (λ (a : Axis). a.classes ≡ classes) → IfOk r (λ (a : Axis). a.count ≡ count)
+    → IfOk r (λ (a : Axis). a.ranges ≡ ranges) → ((m : ℕ) → IsRangeOf o d x m (range_at ranges m)) → classes ≡ map (class_at o d x.0 x.1) (range_with_len 0 (leaf_count o d)) → count ≡ classes_at o d x.0 x.1 → x ≡ choice → IfOk r (IsAxisOf o d choice)
+axis_is {E} o d count x choice classes ranges (Ok a) same many kept each are counted is =
+    subst (λ (y : Choice). IsAxisOf o d y a) is (record {
+      count = many ∙ counted;
+      classes = same ∙ are;
+      ranges = λ m. subst (λ (t : Ranges). IsRangeOf o d x m (range_at t m)) (sym kept) (each m);
+    })
+axis_is {E} o d count x choice classes ranges (Err e) same many kept each are counted is = tt

@@ -1,8 +1,9 @@
 -- Dimensions at a view, and the keys that lists of classes write.
-use Rattle.std.specs.Prelude.{◌≡◌, ℕ, ◌+◌, ◌*◌, ◌^◌, ◌<◌, ◌≤◌, List, [], ◌∷◌, length, Option, Some, None, slice_get}
+use Rattle.std.specs.Prelude.{◌≡◌, ℕ, ◌+◌, ◌-◌, ◌*◌, ◌^◌, ◌<◌, ◌≤◌, List, [], ◌∷◌, length, Option, Some, None, Bool, is_some, nat_lt, if◌then◌else◌, slice_get}
 use Rattle.std.specs.Option.{option_map, option_and_then}
 use Rattle.aso_words.specs.Words.{field_of}
 use Rattle.aso_keys.specs.declared.axis.Axis.{Axis}
+use Rattle.aso_keys.specs.declared.axis.Ranges.{Ranges}
 
 -- the least number of bits that writes n - 1
 pub record IsWidth (n width : ℕ) : Type 0 where
@@ -42,6 +43,17 @@ entry table i = found (slice_get table i)
 -- the class of a data leaf, if it has one
 abbrev pub class_of : Axis → ℕ → Option ℕ
 class_of a leaf = entry a.classes leaf
+
+-- the range of classes of a member, if it has one: the number of the first, and the one behind the last
+abbrev pub range_at : Ranges → ℕ → Option (ℕ × ℕ)
+range_at r m = if nat_lt m r.first then None else found (slice_get r.each (m - r.first))
+
+-- the range of classes of a member in a dimension
+abbrev pub range_in : List Axis → ℕ → ℕ → Option (ℕ × ℕ)
+range_in axes d m = option_and_then (λ (a : Axis). range_at a.ranges m) (slice_get axes d)
+
+abbrev pub has_range : List Axis → ℕ → ℕ → Bool
+has_range axes d m = is_some (range_in axes d m)
 
 abbrev pub both : Option ℕ → Option (List ℕ) → Option (List ℕ)
 both c cs = option_and_then (λ (x : ℕ). option_map (λ (xs : List ℕ). x ∷ xs) cs) c

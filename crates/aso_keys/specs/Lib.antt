@@ -1,3 +1,4 @@
 pub mod Axes
 pub mod Views
+pub mod Ranges
 pub mod Layouts

@@ -2,7 +2,7 @@
 ghost use Rattle.std.specs.Prelude.{◌≡◌, ℕ, ◌<◌, ◌≤◌, ◌^◌, List, length, Some, IfOk, nat_le};
 ghost use Rattle.aso_keys.specs.Axes.{IsWidth, IsAxis, AreBelow, AreLeaves, entry};
 
-use crate::axis::Axis;
+use crate::axis::{Axis, Ranges};
 use aso_memory::NoMemory;
 use aso_num::List;
 use std::alloc::Global;
@@ -47,11 +47,12 @@ fn leaves_of(
     Ok(leaves)
 }
 
-// The dimension whose data leaves have these classes, with the bits of its keys from `shift` on.
+// The dimension whose data leaves have these classes and whose members these ranges, with the bits of its keys from `shift` on.
 pub fn axis_of(
     alloc: Global,
     classes: Vec<Option<u32>>,
     count: u32,
+    ranges: Ranges,
     shift: u32,
 ) -> Result<Axis, NoMemory>
     requires short { length classes.items < 2 ^ 32 }
@@ -59,6 +60,7 @@ pub fn axis_of(
     ensures axis { IfOk result IsAxis }
     ensures classes { IfOk result (λ a. a.classes ≡ classes.items) }
     ensures count { IfOk result (λ a. a.count ≡ count) }
+    ensures ranges { IfOk result (λ a. a.ranges ≡ ranges) }
     ensures shift { IfOk result (λ a. a.shift ≡ shift) }
 {
     let leaves = leaves_of(alloc, classes.as_slice(), count)?;
@@ -68,5 +70,6 @@ pub fn axis_of(
         width: width_for(count),
         classes: List::of(classes),
         leaves: List::of(leaves),
+        ranges,
     })
 }

@@ -1,12 +1,13 @@
-ghost use Rattle.std.specs.Prelude.{◌≡◌, ◌≢◌, ◌↔◌, ℕ, ◌*◌, ◌<◌, ◌≤◌, ◌^◌, List, length, Some, None, IsTrue};
+ghost use Rattle.std.specs.Prelude.{◌≡◌, ◌≢◌, ◌↔◌, ℕ, ◌*◌, ◌<◌, ◌≤◌, ◌^◌, List, length, Some, None, IsTrue, true};
 ghost use Rattle.std.specs.Option.{option_map};
 ghost use Rattle.std.specs.Ordering.{nat_cmp};
 ghost use Rattle.std.specs.Cmp.Lexicographic.{slice_cmp};
-ghost use Rattle.aso_keys.specs.Axes.{bits_of, AreClasses, key_of, fields_of, classes_of, AreCoarser};
+ghost use Rattle.aso_keys.specs.Axes.{bits_of, AreClasses, key_of, fields_of, classes_of, AreCoarser, range_in, has_range};
 
 use crate::axis::Axis;
 use crate::keys::{are_classes, fields_in, key_in, roll_in};
 use crate::making::dim_axis;
+use crate::ranges::range_in;
 use aso_memory::NoMemory;
 use aso_num::List;
 use aso_outline::{Outline, View};
@@ -37,8 +38,11 @@ impl Model for Layout {
 impl Layout {
     ghost use Rattle.std.specs.Prelude.{IfOk};
     ghost use Rattle.aso_keys.specs.Axes.{ArePlaced};
-    ghost use Rattle.aso_keys.specs.Layouts.{IsLayout};
-    ghost use Rattle.aso_keys.specs.Views.{IsBase, IsView, IsCoarserView};
+    ghost use Rattle.aso_outline.specs.declared.draft.Draft.{Draft};
+    ghost use Rattle.aso_outline.specs.Numbers.{seat_of};
+    ghost use Rattle.aso_keys.specs.Layouts.{AreRanges, IsLayout};
+    ghost use Rattle.aso_keys.specs.Ranges.{IsRange};
+    ghost use Rattle.aso_keys.specs.Views.{Choice, choice_at, IsBase, IsView, IsCoarserView};
 
     /// The layout of a view: for each dimension level 0, or a level of a stored hierarchy from 1 to its top. Shifts, widths
     /// and the tables of classes are made here, in time and memory in proportion to the data leaves and classes.
@@ -87,6 +91,14 @@ impl Layout {
         outline.keeps();
         let _axes = &self.axes;
     }
+
+    /// A member has a range exactly where it is stored, and what it stands for is in the view's hierarchy of its dimension and at least
+    /// as high as the view's level there, at level 0 in the first hierarchy. A shared member counts as its data leaf. The range has
+    /// exactly the classes of the data leaves that the member holds.
+    pub fn keeps_ranges(&self, outline: &Outline, view: &View)
+        requires { IsLayout outline.now view.now.choices self.now }
+        ensures { AreRanges outline.now view.now.choices self.now }
+    {}
 
     /// How many dimensions it has.
     pub fn dims(&self) -> usize
@@ -148,5 +160,26 @@ impl Layout {
         ensures outside { ((leaves : List ℕ) → classes_of self.now leaves ≢ Some (fields_of self.now key.now)) → result ≡ None }
     {
         roll_in(self.axes.items(), to.axes.items(), key)
+    }
+
+    /// Whether a member has a range of classes in a dimension. By `keeps_ranges` that is a stored member of the dimension
+    /// which the view answers there.
+    pub fn has_range(&self, dim: u32, member: u32) -> bool
+        ensures { result ≡ has_range self.now dim member }
+    {
+        range_in(self.axes.items(), dim, member).is_some()
+    }
+
+    /// The classes in a dimension that a member holds: the number of the first, and the one behind the last. A class that a data leaf has
+    /// is among them exactly where the member holds the leaf.
+    pub fn range_of(&self, dim: u32, member: u32) -> (u32, u32)
+        requires { has_range self.now dim member ≡ true }
+        ensures value { range_in self.now dim member ≡ Some result }
+        ensures held { (o : Draft) (xs : List Choice) → IsLayout o xs self.now → IsRange o dim (choice_at xs dim) (seat_of o member) result }
+    {
+        match range_in(self.axes.items(), dim, member) {
+            Some(range) => range,
+            None => unreachable!(),
+        }
     }
 }

@@ -6,6 +6,7 @@ mod build;
 mod keys;
 mod layout;
 mod making;
+mod ranges;
 mod views;
 
 pub use aso_outline::View;

@@ -10,6 +10,7 @@ ghost use Rattle.aso_keys.specs.Views.{choice_at, IsView};
 
 use crate::axis::Axis;
 use crate::build::axis_of;
+use crate::ranges::ranges_of;
 use aso_memory::NoMemory;
 use aso_outline::{Outline, View};
 use std::alloc::Global;
@@ -68,5 +69,6 @@ pub fn dim_axis(
     let (hier, level) = choice(outline, view, dim);
     let classes = classes_of(alloc, outline, dim, hier, level)?;
     let count = outline.classes(dim, hier, level);
-    axis_of(alloc, classes, count, shift)
+    let ranges = ranges_of(alloc, outline, dim, hier, level)?;
+    axis_of(alloc, classes, count, ranges, shift)
 }

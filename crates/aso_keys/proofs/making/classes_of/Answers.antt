@@ -1,4 +1,4 @@
-use Rattle.std.proofs.Common.{rules, ◌≡◌, sym, ap, subst, refl, arith}
+use Rattle.std.proofs.Common.{sym, subst, refl, arith}
 use Rattle.aso_outline.specs.Classes.{class_at, classes_at}
 use Rattle.aso_keys.specs.Axes.{AreBelow}
 use Rattle.aso_keys.proofs.MakingLemmas.{below_none, below_more, classes_more, as_long}

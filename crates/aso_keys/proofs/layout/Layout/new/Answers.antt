@@ -1,8 +1,5 @@
-use Rattle.std.proofs.Common.{rules, arith, ◌≡◌, ◌∙◌, ◌+◌, ◌-◌, ◌≤◌, ℕ, List, reverse, sym, ap, subst, refl}
-use Rattle.aso_keys.specs.declared.axis.Axis.{Axis}
-use Rattle.aso_keys.specs.Axes.{bits_of, ArePlaced}
-use Rattle.aso_keys.specs.Layouts.{IsLayout}
-use Rattle.aso_keys.proofs.MakingLemmas.{Building, building_none, building_more, building_all}
+use Rattle.std.proofs.Common.{arith, ◌+◌, ◌-◌, refl}
+use Rattle.aso_keys.proofs.MakingLemmas.{building_none, building_more}
 use Rattle.aso_keys.proofs.layout.Layout.new.Goals as goal
 
 pub loop-back-init : goal.loop-back-init
