@@ -45,7 +45,7 @@ impl Layout {
     ghost use Rattle.aso_keys.specs.Views.{Choice, choice_at, IsBase, IsView, IsCoarserView};
 
     /// The layout of a view: for each dimension level 0, or a level of a stored hierarchy from 1 to its top. Shifts, widths
-    /// and the tables of classes are made here, in time and memory in proportion to the data leaves and classes.
+    /// and the tables of classes and ranges are made here, in memory in proportion to the members.
     pub fn new(alloc: Global, outline: &Outline, view: &View) -> Result<Layout, NoMemory>
         requires { IsView outline.now view.now.choices }
         ensures { IfOk result (IsLayout outline.now view.now.choices) }
@@ -93,8 +93,8 @@ impl Layout {
     }
 
     /// A member has a range exactly where it is stored, and what it stands for is in the view's hierarchy of its dimension and at least
-    /// as high as the view's level there, at level 0 in the first hierarchy. A shared member counts as its data leaf. The range has
-    /// exactly the classes of the data leaves that the member holds.
+    /// as high as the view's level there, at level 0 in the first hierarchy. A shared member counts as its data leaf. A class that a
+    /// data leaf has is in the range exactly where the member holds the leaf.
     pub fn keeps_ranges(&self, outline: &Outline, view: &View)
         requires { IsLayout outline.now view.now.choices self.now }
         ensures { AreRanges outline.now view.now.choices self.now }

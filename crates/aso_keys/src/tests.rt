@@ -206,6 +206,52 @@ fn keys_are_written_read_and_rolled_up(rt: HostRuntime) -> Result<(), Fail> {
     Ok(())
 }
 
+fn range(layout: &Layout, dim: u32, member: u32) -> Option<(u32, u32)> {
+    if layout.has_range(dim, member) {
+        Some(layout.range_of(dim, member))
+    } else {
+        None
+    }
+}
+
+#[test]
+fn ranges_of_members(rt: HostRuntime) -> Result<(), Fail> {
+    let outline = basic(rt.alloc())?;
+    // Market is 3: Total 4, East 5, NY 6, MA 7, CA 8; Big 9, NY 10, CA 11; Sum 12, NY 13, CA 14.
+    // Measures, 15, stands for Sales; Cost is 17, and Margin, 18, is computed
+    for (number, dim, member, want) in [
+        (0, 0, 0, Some((0, 2))),
+        (0, 1, 3, Some((0, 3))),
+        (0, 1, 5, Some((0, 2))),
+        (0, 1, 8, Some((2, 3))),
+        (0, 1, 9, None),
+        (0, 1, 11, Some((2, 3))),
+        (0, 1, 14, Some((2, 3))),
+        (0, 2, 15, Some((0, 1))),
+        (0, 2, 17, Some((1, 2))),
+        (0, 2, 18, None),
+        (0, 1, 1, None),
+        (0, 2, 20, None),
+        (0, 3, 0, None),
+        (1, 1, 3, Some((0, 2))),
+        (1, 1, 5, Some((0, 1))),
+        (1, 1, 8, None),
+        (1, 1, 9, None),
+        (3, 1, 9, Some((0, 1))),
+        (3, 1, 10, None),
+        (3, 1, 4, None),
+    ] {
+        let view = view(rt.alloc(), &outline, number)?;
+        let layout = Layout::new(rt.alloc(), &outline, &view)?;
+        assert_eq!(rt;
+            range(&layout, dim, member),
+            want,
+            "at {number}, {dim}, {member}"
+        );
+    }
+    Ok(())
+}
+
 #[test]
 fn classes_and_views_that_are_not(rt: HostRuntime) -> Result<(), Fail> {
     let alloc = rt.alloc();
