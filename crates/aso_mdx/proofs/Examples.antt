@@ -1,11 +1,9 @@
 -- The grammar, computed on one query: its tokens and then what they spell.
-use Rattle.std.proofs.Common.{◌≡◌, ℕ, List, [], ◌∷◌, true, false, refl, codes, Some, None, Ok, map}
+use Rattle.std.proofs.Common.{List, [], ◌∷◌, false, refl, codes, None}
 use Rattle.aso_token.specs.declared.token.Token.{Token}
-use Rattle.aso_token.specs.declared.token.Token.TheVariants.{Word, Number, Quoted, Name, Mark}
+use Rattle.aso_token.specs.declared.token.Token.TheVariants.{Word, Quoted, Name, Mark}
 use Rattle.aso_token.specs.declared.token.Mark.TheVariants.{Dot, Comma, Open, Close, OpenSet, CloseSet}
-use Rattle.aso_token.specs.Reads.{tokens_of, finished}
 use Rattle.aso_token.specs.Words.{is_word}
-use Rattle.aso_token.specs.Cutting.{cut, cut_from}
 use Rattle.aso_token.proofs.Laws.{text_found}
 use Rattle.aso_mdx.specs.declared.query.SetText.TheVariants.{Braced, Member}
 use Rattle.aso_mdx.specs.declared.query.Query.{Query}

@@ -1,18 +1,18 @@
 -- What is read is in the grammar of sets, what is in it is read, and a fault is where nothing can come.
-use Rattle.std.proofs.Common.{◌≡◌, ℕ, zero, suc, ◌+◌, ◌≤◌, ◌<◌, length, length-append, arith, Bool, true, false, List, [], ◌∷◌, ◌++◌, Option, Some, None, Result, Ok, Err, ◌⊎◌, inl, inr, ⊎_elim, refl, sym, ◌∙◌, ap, subst, append_assoc, append-nil, ◌||◌, ◌&&◌, is_some, codes, if◌then◌else◌}
+use Rattle.std.proofs.Common.{◌≡◌, ℕ, zero, suc, ◌+◌, ◌≤◌, length, length-append, arith, Bool, true, false, List, [], ◌∷◌, ◌++◌, Option, Some, None, Ok, Err, ◌⊎◌, inl, inr, ⊎_elim, refl, sym, ◌∙◌, ap, append-nil, ◌||◌, ◌&&◌, is_some, codes, if◌then◌else◌}
 use Rattle.std.specs.Str.{str_eq_ignore_ascii_case, str_to_ascii_lowercase, bytes_eq}
 use Rattle.std.proofs.lemmas.Slice.Eq.{bytes_eq-Decides}
 use Rattle.aso_token.specs.declared.token.Token.{Token}
-use Rattle.aso_token.specs.declared.token.Token.TheVariants.{Word, Number, Quoted, Name, Mark}
-use Rattle.aso_token.specs.declared.token.Mark.TheVariants.{Dot, Comma, Open, Close, OpenSet, CloseSet, Plus, Minus, Star, Slash, Equals}
-use Rattle.aso_token.specs.Lang.{Lang, One, Then, Or, Makes, Empty, UpTo, Many, Chain, Begins, ◌▷◌, ◌◁◌}
+use Rattle.aso_token.specs.declared.token.Token.TheVariants.{Word, Name, Mark}
+use Rattle.aso_token.specs.declared.token.Mark.TheVariants.{Dot, Comma, Open, Close, OpenSet, CloseSet}
+use Rattle.aso_token.specs.Lang.{Lang, One, Then, Or, Makes, Empty, Many, Chain, ◌▷◌, ◌◁◌}
 use Rattle.aso_token.specs.Reads.{Read, ◌>>=◌, taken, paired, second, made, begins, begin, begins_second, read_one, read_then, read_as, read_if, read_if_two, read_many, read_chain, read_empty, passes, ◌▸◌, ◌◂◌}
-use Rattle.aso_token.proofs.Laws.{Law, Halts, Never, either, one_law, then_law, then_never, right_never, left_never, as_law, or_law, or_two_law, chain_law, pairs_law, empty_law, loosen, one_heads, halts_first, halts_second, never_halts, fails, if_true, if_false, good, ok_is, ok_err, bind_ok, bind_err}
+use Rattle.aso_token.proofs.Laws.{Law, Halts, Never, either, one_law, then_law, then_never, right_never, left_never, as_law, or_law, or_two_law, chain_law, pairs_law, empty_law, loosen, one_heads, halts_first, halts_second, never_halts, fails, if_false, ok_err}
 use Rattle.aso_token.specs.Marks.{comma, open_mark, close_mark}
 use Rattle.aso_token.specs.Words.{is_word, key, known, part, dot, open_set, close_set}
 use Rattle.aso_mdx.specs.declared.query.SetText.{SetText}
 use Rattle.aso_mdx.specs.declared.query.SetText.TheVariants.{Braced, Member, Tuple, Children, Members, Descendants, Leaves}
-use Rattle.aso_mdx.specs.Grammar.{Name as AName, Rest, Key, all_of, Listed, is_method, later_part, Path, Paths, function, method, applied, Call, plain, last, longer, Tail, Tails, ended, Dotted, Leaf, InBraces, crossed, Crossing, Set, SetTokens}
+use Rattle.aso_mdx.specs.Grammar.{Name as AName, Rest, Key, all_of, Listed, later_part, Path, Paths, function, method, applied, Call, plain, last, longer, Tail, Tails, ended, Dotted, Leaf, InBraces, crossed, Crossing, Set, SetTokens}
 use Rattle.aso_mdx.specs.Reading.{read_key, read_listed, read_path, read_paths, read_call, read_step, read_tail, read_tails, read_dotted, read_leaf, read_braces, read_crossing, read_nested}
 
 -- ---- parts that many rules have

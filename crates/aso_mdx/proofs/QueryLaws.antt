@@ -1,22 +1,21 @@
 -- What is read is in the grammar of queries, what is in it is read, and a fault is where nothing can come.
-use Rattle.std.proofs.Common.{◌≡◌, ℕ, zero, suc, Bool, true, false, List, [], ◌∷◌, ◌++◌, Option, Some, None, Result, Ok, Err, ◌⊎◌, inl, inr, ⊎_elim, refl, sym, ◌∙◌, ap, append_assoc, append-nil, ◌||◌, ◌&&◌, is_some, codes, if◌then◌else◌, length}
+use Rattle.std.proofs.Common.{◌≡◌, ℕ, zero, suc, Bool, true, false, List, [], ◌∷◌, ◌++◌, Option, Some, None, Ok, inl, inr, ⊎_elim, refl, sym, ◌∙◌, ap, append_assoc, append-nil, ◌||◌, is_some, codes, if◌then◌else◌, length}
 use Rattle.std.specs.Prelude.{◌==◌}
 use Rattle.std.specs.Str.{str_eq_ignore_ascii_case}
 use Rattle.aso_token.specs.declared.token.Token.{Token}
 use Rattle.aso_token.specs.declared.token.Token.TheVariants.{Word, Number, Quoted, Name, Mark}
-use Rattle.aso_token.specs.declared.token.Mark.TheVariants.{Dot, Comma, Open, Close, OpenSet, CloseSet, Plus, Minus, Star, Slash, Equals}
+use Rattle.aso_token.specs.declared.token.Mark.TheVariants.{Dot, OpenSet, Equals}
 use Rattle.aso_token.specs.Lang.{Lang, One, Then, Or, Makes, Empty, UpTo, Maybe, ◌▷◌, ◌◁◌}
 use Rattle.aso_token.specs.Reads.{Read, ◌>>=◌, made, begins, begin, read_one, read_then, read_as, read_if, read_if_two, read_upto, read_empty, read_maybe, passes, ◌▸◌, ◌◂◌}
 use Rattle.aso_token.proofs.Laws.{Law, Halts, Never, either, one_law, then_law, then_never, right_never, left_never, as_law, or_law, or_two_law, upto_law, empty_law, loosen, one_heads, many_follow, halts_first, halts_second, never_halts, fails, if_false}
-use Rattle.aso_token.specs.Marks.{comma, open_mark, close_mark, name}
-use Rattle.aso_token.specs.Words.{is_word, key, known, plain_name, quoted, part, whole, dot, open_set, equals}
+use Rattle.aso_token.specs.Marks.{comma, open_mark, name}
+use Rattle.aso_token.specs.Words.{is_word, key, known, part, whole, dot, open_set, equals}
 use Rattle.aso_mdx.specs.declared.query.SetText.{SetText}
 use Rattle.aso_mdx.specs.declared.query.Own.{Own}
 use Rattle.aso_mdx.specs.declared.query.Axis.{Axis}
-use Rattle.aso_mdx.specs.declared.query.Query.{Query}
-use Rattle.aso_mdx.specs.Grammar.{Name as AName, Key, in_front, later_part, Path, Paths, function, Leaf, InBraces, Crossing, Set, SetTokens, filtered, unfiltered, axis, AxisText, own, OwnText, point_at, cut_name, pointless, Base, alone, Slicer, Owns, query, QueryTokens}
+use Rattle.aso_mdx.specs.Grammar.{Name as AName, Key, in_front, later_part, Path, Paths, function, Leaf, InBraces, Crossing, Set, SetTokens, filtered, unfiltered, axis, AxisText, own, OwnText, quoted, plain_name, point_at, cut_name, pointless, Base, alone, Slicer, Owns, query, QueryTokens}
 use Rattle.aso_mdx.specs.Reading.{read_key, read_path, read_paths, read_leaf, read_braces, read_crossing, read_nested, read_axis_set, read_axis, read_solve, read_own_path, read_formula, read_own, read_owns, read_base, read_slicer, read_columns, read_rows, read_source, read_query}
-use Rattle.aso_mdx.proofs.Laws.{some_one, some_closed, some_behind, behind_heads, comma_token, open_token, dot_token, part_token, later_token, path_law, path_goes, paths_law, some_path, words_apart, key_part, key_function, function_key, known_is, part_open, part_open_set, part_dot, open_key, NotTwo, no_first, two_begin, two_goes, leaf_apart, leaf_full, word_alone, set_goes, braces_heads, crossing_heads, some_set, set_law, nested_law}
+use Rattle.aso_mdx.proofs.Laws.{some_one, some_closed, some_behind, behind_heads, comma_token, dot_token, part_token, later_token, path_law, path_goes, paths_law, some_path, words_apart, key_part, key_function, function_key, known_is, part_open, part_open_set, part_dot, open_key, NotTwo, no_first, two_begin, two_goes, leaf_apart, leaf_full, word_alone, set_goes, braces_heads, crossing_heads, some_set, set_law, nested_law}
 
 -- ---- texts or nothing
 

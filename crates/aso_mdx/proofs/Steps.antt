@@ -1,18 +1,17 @@
 -- The reading of sets, by the tokens at the front.
-use Rattle.std.proofs.Common.{◌≡◌, ◌≢◌, ℕ, zero, suc, ◌+◌, ◌-◌, ◌<◌, length, Bool, true, false, List, [], ◌∷◌, ◌++◌, Option, Some, None, Result, Ok, Err, refl, sym, ◌∙◌, ap, append_assoc, append-nil, ◌&&◌, map, fold, arith, option_map, is_some, codes}
+use Rattle.std.proofs.Common.{◌≡◌, ◌≢◌, ℕ, zero, suc, ◌-◌, ◌<◌, length, Bool, true, false, List, [], ◌∷◌, ◌++◌, Option, Some, None, Ok, Err, refl, sym, ◌∙◌, ap, append_assoc, append-nil, ◌&&◌, map, fold, arith, option_map, is_some, codes}
 use Rattle.aso_token.specs.declared.token.Token.{Token}
 use Rattle.aso_token.specs.declared.token.Token.TheVariants.{Mark}
 use Rattle.aso_token.specs.declared.token.Mark.TheVariants.{Open}
-use Rattle.aso_token.specs.Lang.{Lang, One, ◌◁◌}
-use Rattle.aso_token.specs.Reads.{Read, ◌>>=◌, taken, paired, second, made, begins, begin, begins_second, read_one, read_then, read_as, read_many, with_rest, onward, gathered, front_of, passes, ◌▸◌, ◌◂◌}
-use Rattle.aso_token.proofs.Laws.{Never, if_true, if_false, not_front, good}
+use Rattle.aso_token.specs.Reads.{Read, ◌>>=◌, taken, paired, second, made, begins, begin, read_one, read_then, read_as, read_many, with_rest, onward, gathered, front_of, passes, ◌▸◌, ◌◂◌}
+use Rattle.aso_token.proofs.Laws.{if_true, if_false, not_front, good}
 use Rattle.aso_token.specs.Marks.{comma, open_mark, close_mark}
 use Rattle.aso_token.specs.Words.{key, part, dot, open_set, close_set}
 use Rattle.aso_mdx.specs.declared.query.SetText.{SetText}
 use Rattle.aso_mdx.specs.declared.query.SetText.TheVariants.{Braced, Tuple}
-use Rattle.aso_mdx.specs.Grammar.{Name, Rest, all_of, later_part, Path, function, method, applied, plain, last, longer, ended, crossed}
-use Rattle.aso_mdx.specs.Reading.{read_listed, read_path, read_paths, read_call, read_step, read_tail, read_tails, read_dotted, read_leaf, read_braces, read_crossing, read_nested, read_tuple_rest, read_applied, read_braces_rest, read_crossing_rest, pair_crossed, opened, grown, finish}
-use Rattle.aso_mdx.proofs.Laws.{same_tail, one_less, dot_token, later_token, and_false, both_taken, closed_law, path_goes, path_law, close_token, close_path}
+use Rattle.aso_mdx.specs.Grammar.{Name, Rest, all_of, later_part, function, method, applied, plain, last, longer, ended, crossed}
+use Rattle.aso_mdx.specs.Reading.{read_listed, read_path, read_paths, read_call, read_step, read_tail, read_tails, read_dotted, read_leaf, read_crossing, read_nested, read_tuple_rest, read_applied, read_braces_rest, read_crossing_rest, pair_crossed, opened, grown, finish}
+use Rattle.aso_mdx.proofs.Laws.{same_tail, one_less, later_token, and_false}
 
 -- ---- the front token
 

@@ -1,5 +1,5 @@
 -- What the reading of a text answers.
-use Rattle.std.specs.Prelude.{◌≡◌, ℕ, List, Result, Ok, Err}
+use Rattle.std.specs.Prelude.{◌≡◌, ℕ, Result, Ok, Err}
 use Rattle.aso_mdx.specs.declared.fault.SyntaxFault.{SyntaxFault}
 use Rattle.aso_mdx.specs.declared.fault.SyntaxFault.TheVariants.{Syntax, NoMemory}
 

@@ -1,11 +1,11 @@
 -- The grammar of queries.
-use Rattle.std.specs.Prelude.{◌≡◌, ℕ, zero, suc, Bool, true, false, not, ◌||◌, List, [], ◌∷◌, length, map, take, drop, ◌+◌, Option, Some, None, codes, if◌then◌else◌, unwrap_or, is_some, ◌==◌}
+use Rattle.std.specs.Prelude.{ℕ, zero, suc, Bool, true, false, not, ◌||◌, ◌&&◌, List, [], ◌∷◌, length, map, take, drop, ◌+◌, Option, Some, None, codes, if◌then◌else◌, unwrap_or, ◌==◌}
 use Rattle.std.specs.List.{prefix_len}
 use Rattle.aso_token.specs.declared.token.Token.{Token}
-use Rattle.aso_token.specs.declared.token.Token.TheVariants.{Name as ANameToken}
+use Rattle.aso_token.specs.declared.token.Token.TheVariants.{Word as AWordToken, Quoted as AQuotedToken, Name as ANameToken}
 use Rattle.aso_token.specs.Lang.{Lang, One, Then, Or, Makes, Empty, Maybe, UpTo, Many, Chain, ◌▷◌, ◌◁◌}
 use Rattle.aso_token.specs.Marks.{comma, open_mark, close_mark, name}
-use Rattle.aso_token.specs.Words.{is_word, key, known, plain_name, quoted, part, whole, dot, open_set, close_set, equals}
+use Rattle.aso_token.specs.Words.{is_word, key, known, part, whole, dot, open_set, close_set, equals}
 use Rattle.aso_token.specs.Texts.{Spells, IsFaultAt}
 use Rattle.aso_mdx.specs.declared.query.SetText.{SetText}
 use Rattle.aso_mdx.specs.declared.query.SetText.TheVariants.{Braced, Member, Tuple, Children, Members, Descendants, Leaves, Crossjoin}
@@ -113,6 +113,26 @@ Set (suc n) = Or (InBraces (Set n)) (Or (Crossing (Set n)) Leaf)
 unfoldable pub SetTokens : Lang SetText
 SetTokens = Set 32
 
+-- ---- quoted texts
+
+-- two quotes side by side are one: a quote behind a quote is left out
+abbrev pub single_quotes : Bool → List ℕ → List ℕ
+single_quotes behind [] = []
+single_quotes behind (b ∷ bs) = if behind && (b == 39) then single_quotes false bs else b ∷ single_quotes (b == 39) bs
+
+abbrev pub undoubled : List ℕ → List ℕ
+undoubled text = single_quotes false text
+
+abbrev pub quoted : Token → Option (List ℕ)
+quoted (AQuotedToken text) = Some (undoubled text)
+quoted _ = None
+
+-- a word or a quoted text
+abbrev pub plain_name : Token → Option Name
+plain_name (AWordToken text) = Some text
+plain_name (AQuotedToken text) = Some (undoubled text)
+plain_name _ = None
+
 -- ---- queries
 
 abbrev pub filtered : Unit {0} × SetText → Bool × SetText
@@ -140,9 +160,12 @@ OwnText = Makes
 abbrev pub point_at : List ℕ → ℕ
 point_at text = prefix_len (λ b. not (b == 46)) text
 
--- a text in brackets with a point, cut at its first point
+-- a text with a point, cut at its first point
+abbrev pub cut_text : Name → Option (Name × Name)
+cut_text text = if point_at text == length text then None else Some (take (point_at text) text, drop (point_at text + 1) text)
+
 abbrev pub cut_name : Token → Option (Name × Name)
-cut_name (ANameToken text) = if point_at text == length text then None else Some (take (point_at text) text, drop (point_at text + 1) text)
+cut_name (ANameToken text) = cut_text text
 cut_name _ = None
 
 abbrev pub pointless : Token → Option Name

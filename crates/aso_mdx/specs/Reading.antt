@@ -1,17 +1,17 @@
 -- How sets and queries are read.
-use Rattle.std.specs.Prelude.{ℕ, Bool, zero, suc, List, [], ◌∷◌, ◌++◌, length, codes, Option, Some, None, option_map, Ok}
+use Rattle.std.specs.Prelude.{ℕ, Bool, zero, suc, List, [], ◌∷◌, ◌++◌, length, codes, Option, None, option_map, Ok}
 use Rattle.aso_token.specs.declared.token.Token.{Token}
 use Rattle.aso_token.specs.declared.token.Token.TheVariants.{Mark}
 use Rattle.aso_token.specs.declared.token.Mark.TheVariants.{Open}
 use Rattle.aso_token.specs.Reads.{with_rest, Read, read_one, read_then, read_as, read_if, read_if_two, read_many, read_chain, read_empty, read_upto, read_maybe, passes, ◌▸◌, ◌◂◌}
 use Rattle.aso_token.specs.Marks.{comma, open_mark, close_mark, name}
-use Rattle.aso_token.specs.Words.{key, part, plain_name, quoted, whole, dot, open_set, close_set, equals}
+use Rattle.aso_token.specs.Words.{key, part, whole, dot, open_set, close_set, equals}
 use Rattle.aso_mdx.specs.declared.query.SetText.{SetText}
 use Rattle.aso_mdx.specs.declared.query.SetText.TheVariants.{Braced, Tuple, Crossjoin}
 use Rattle.aso_mdx.specs.declared.query.Own.{Own}
 use Rattle.aso_mdx.specs.declared.query.Axis.{Axis}
 use Rattle.aso_mdx.specs.declared.query.Query.{Query}
-use Rattle.aso_mdx.specs.Grammar.{filtered, unfiltered, axis, own, in_front, cut_name, pointless, alone, query, Name, Rest, all_of, later_part, function, method, applied, plain, last, longer, ended, crossed}
+use Rattle.aso_mdx.specs.Grammar.{filtered, unfiltered, axis, own, in_front, quoted, plain_name, cut_name, pointless, alone, query, Name, Rest, all_of, later_part, function, method, applied, plain, last, longer, ended, crossed}
 
 abbrev pub read_key : List ℕ → List Token → Read (Unit {0})
 read_key w = read_one (key w)
@@ -85,8 +85,11 @@ finish parts x = Ok (x.0.1 (parts ++ x.0.0), x.1)
 
 -- ---- queries
 
+abbrev pub read_filtered : List Token → Read (Bool × SetText)
+read_filtered = read_as (read_then (read_key (codes "non") ◂ read_key (codes "empty")) (read_nested 32)) filtered
+
 abbrev pub read_axis_set : List Token → Read (Bool × SetText)
-read_axis_set = read_if_two (passes (key (codes "non"))) (passes (key (codes "empty"))) (read_as (read_then (read_key (codes "non") ◂ read_key (codes "empty")) (read_nested 32)) filtered) (read_as (read_nested 32) unfiltered)
+read_axis_set = read_if_two (passes (key (codes "non"))) (passes (key (codes "empty"))) read_filtered (read_as (read_nested 32) unfiltered)
 
 unfoldable pub read_axis : List ℕ → List Token → Read Axis
 read_axis w = read_as (read_axis_set ◂ (read_key (codes "on") ◂ read_key w)) axis
@@ -103,14 +106,26 @@ read_formula = read_key (codes "as") ▸ read_one quoted
 unfoldable pub read_own : List Token → Read Own
 read_own = read_as (read_then read_own_path (read_then read_formula (read_maybe (passes comma) read_solve))) own
 
+abbrev pub read_own_list : List Token → Read (List Own)
+read_own_list = read_as (read_then read_own (read_upto (passes (key (codes "member"))) read_own 15)) in_front
+
 unfoldable pub read_owns : List Token → Read (List Own)
-read_owns = read_key (codes "with") ▸ read_as (read_then read_own (read_upto (passes (key (codes "member"))) read_own 15)) in_front
+read_owns = read_key (codes "with") ▸ read_own_list
+
+abbrev pub read_bracketed : List Token → Read (Name × Name)
+read_bracketed = read_then (read_one pointless ◂ read_one dot) (read_one name)
+
+abbrev pub read_plain : List Token → Read (Name × Name)
+read_plain = read_then (read_one plain_name ◂ read_one dot) (read_one plain_name)
 
 unfoldable pub read_base : List Token → Read (Name × Name)
-read_base = read_if (passes cut_name) (read_one cut_name) (read_if (passes pointless) (read_then (read_one pointless ◂ read_one dot) (read_one name)) (read_then (read_one plain_name ◂ read_one dot) (read_one plain_name)))
+read_base = read_if (passes cut_name) (read_one cut_name) (read_if (passes pointless) read_bracketed read_plain)
+
+abbrev pub read_place : List Token → Read (List (List Name))
+read_place = read_if (passes open_mark) read_paths (read_as read_path alone)
 
 unfoldable pub read_slicer : List Token → Read (List (List Name))
-read_slicer = read_key (codes "where") ▸ read_if (passes open_mark) read_paths (read_as read_path alone)
+read_slicer = read_key (codes "where") ▸ read_place
 
 abbrev pub read_columns : List Token → Read Axis
 read_columns = read_key (codes "select") ▸ read_axis (codes "columns")
@@ -120,6 +135,10 @@ read_rows = read_one comma ▸ read_axis (codes "rows")
 
 abbrev pub read_source : List Token → Read (Name × Name)
 read_source = read_key (codes "from") ▸ read_base
+
+-- the own members that follow, at most so many, behind those that stand already
+abbrev pub put_behind : List Own → List Own × List Token → Read (List Own)
+put_behind all x = Ok (all ++ x.0, x.1)
 
 unfoldable pub read_query : List Token → Read Query
 read_query = read_as (read_then (read_maybe (passes (key (codes "with"))) read_owns) (read_then read_columns (read_then (read_maybe (passes comma) read_rows) (read_then read_source (read_maybe (passes (key (codes "where"))) read_slicer))))) query

@@ -2,7 +2,10 @@
 #![tactic(auto)]
 
 mod fault;
+mod names;
+mod queries;
 mod query;
+mod query_text;
 mod sets;
 mod shape;
 mod single;
@@ -11,6 +14,7 @@ mod tokens;
 
 pub use fault::SyntaxFault;
 pub use query::{Axis, Own, Query, SetText};
+pub use query_text::read;
 pub use single::spells_one_query;
 pub use text::read_set;
 

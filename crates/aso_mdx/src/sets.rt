@@ -17,7 +17,8 @@ use aso_token::{Placed, Stop, after_comma, after_open, close};
 use sqlite_items::{Boxed, Items};
 use std::alloc::Global;
 
-const MOST_NESTED: usize = 32;
+/// How many braces and crossings may nest.
+pub const MOST_NESTED: usize = 32;
 
 /// A member's parts.
 pub fn path<'s, 'a>(

@@ -1,8 +1,8 @@
 // What stands at the front of some tokens.
 ghost use Rattle.std.specs.Prelude.{◌≡◌, option_map, is_some, codes, IfOk};
 ghost use Rattle.aso_token.specs.Marks.{comma as comma_mark, open_mark};
-ghost use Rattle.aso_token.specs.Words.{is_word, key as key_of, part as part_of, dot, open_set as open_set_mark, close_set as close_set_mark};
-ghost use Rattle.aso_token.specs.Reads.{Gives, tokens_of, front_of, read_one};
+ghost use Rattle.aso_token.specs.Words.{is_word, key as key_of, part as part_of, dot as dot_mark, equals as equals_mark, open_set as open_set_mark, close_set as close_set_mark};
+ghost use Rattle.aso_token.specs.Reads.{Gives, tokens_of, front_of, read_one, begins, begin, passes};
 ghost use Rattle.aso_mdx.specs.Grammar.{is_method, later_part as later_part_of, function as function_of, method as method_of};
 ghost use Rattle.aso_mdx.specs.Reading.{opened};
 ghost use Rattle.aso_mdx.specs.Shapes.{shape_of};
@@ -22,7 +22,7 @@ pub fn is_key(token: &Token<'_>, word: &[u8]) -> bool
     }
 }
 
-fn copied(alloc: Global, piece: &Piece<'_>) -> Result<Text, AllocError>
+pub fn copied(alloc: Global, piece: &Piece<'_>) -> Result<Text, AllocError>
     ensures { IfOk result (λ t. t ≡ piece.now) }
 {
     Ok(Text::of(String::from_str(alloc, piece.as_str())?))
@@ -152,7 +152,7 @@ pub fn after_crossjoin<'s, 'a>(tokens: &'s [Placed<'a>]) -> Option<&'s [Placed<'
 }
 
 pub fn after_dot<'s, 'a>(tokens: &'s [Placed<'a>]) -> Option<&'s [Placed<'a>]>
-    ensures { option_map (λ x. (tt, tokens_of x.now)) result ≡ front_of dot (tokens_of tokens.now) }
+    ensures { option_map (λ x. (tt, tokens_of x.now)) result ≡ front_of dot_mark (tokens_of tokens.now) }
 {
     match tokens {
         [
@@ -203,6 +203,108 @@ pub fn comma<'s, 'a>(tokens: &'s [Placed<'a>]) -> Result<&'s [Placed<'a>], Stop<
         [
             Placed {
                 token: Token::Mark(Mark::Comma),
+                ..
+            },
+            rest @ ..,
+        ] => Ok(rest),
+        _ => Err(Stop::At(tokens)),
+    }
+}
+
+/// Whether this word stands at the front.
+pub fn begins_word(tokens: &[Placed<'_>], word: &[u8]) -> bool
+    ensures { result ≡ begins (passes (key_of word.now)) (tokens_of tokens.now) }
+{
+    match tokens {
+        [first, ..] => is_key(&first.token, word),
+        [] => false,
+    }
+}
+
+/// The tokens behind a word that has to stand at the front.
+pub fn word<'s, 'a>(tokens: &'s [Placed<'a>], word: &[u8]) -> Result<&'s [Placed<'a>], Stop<'s, 'a>>
+    ensures { Gives (λ x. (tt, tokens_of x.now)) result (read_one (key_of word.now) (tokens_of tokens.now)) }
+{
+    let [first, rest @ ..] = tokens else {
+        return Err(Stop::At(tokens));
+    };
+    if is_key(&first.token, word) {
+        Ok(rest)
+    } else {
+        Err(Stop::At(tokens))
+    }
+}
+
+pub fn begins_non_empty(tokens: &[Placed<'_>]) -> bool
+    ensures { result ≡ begin (passes (key_of (codes "non"))) (passes (key_of (codes "empty"))) (tokens_of tokens.now) }
+{
+    match tokens {
+        [first, second, ..] => is_key(&first.token, b"non") && is_key(&second.token, b"empty"),
+        [..] => false,
+    }
+}
+
+pub fn begins_comma(tokens: &[Placed<'_>]) -> bool
+    ensures { result ≡ begins (passes comma_mark) (tokens_of tokens.now) }
+{
+    match tokens {
+        [
+            Placed {
+                token: Token::Mark(Mark::Comma),
+                ..
+            },
+            ..
+        ] => true,
+        _ => false,
+    }
+}
+
+pub fn begins_open(tokens: &[Placed<'_>]) -> bool
+    ensures { result ≡ begins (passes open_mark) (tokens_of tokens.now) }
+{
+    match tokens {
+        [first, ..] => is_open(&first.token),
+        [] => false,
+    }
+}
+
+pub fn open<'s, 'a>(tokens: &'s [Placed<'a>]) -> Result<&'s [Placed<'a>], Stop<'s, 'a>>
+    ensures { Gives (λ x. (tt, tokens_of x.now)) result (read_one open_mark (tokens_of tokens.now)) }
+{
+    match tokens {
+        [
+            Placed {
+                token: Token::Mark(Mark::Open),
+                ..
+            },
+            rest @ ..,
+        ] => Ok(rest),
+        _ => Err(Stop::At(tokens)),
+    }
+}
+
+pub fn dot<'s, 'a>(tokens: &'s [Placed<'a>]) -> Result<&'s [Placed<'a>], Stop<'s, 'a>>
+    ensures { Gives (λ x. (tt, tokens_of x.now)) result (read_one dot_mark (tokens_of tokens.now)) }
+{
+    match tokens {
+        [
+            Placed {
+                token: Token::Mark(Mark::Dot),
+                ..
+            },
+            rest @ ..,
+        ] => Ok(rest),
+        _ => Err(Stop::At(tokens)),
+    }
+}
+
+pub fn equals<'s, 'a>(tokens: &'s [Placed<'a>]) -> Result<&'s [Placed<'a>], Stop<'s, 'a>>
+    ensures { Gives (λ x. (tt, tokens_of x.now)) result (read_one equals_mark (tokens_of tokens.now)) }
+{
+    match tokens {
+        [
+            Placed {
+                token: Token::Mark(Mark::Equals),
                 ..
             },
             rest @ ..,

@@ -1,4 +1,4 @@
-use Rattle.std.proofs.Common.{◌≡◌, ◌<◌, ◌-◌, ◌∙◌, ap, sym, refl, List, [], ◌++◌, ◌∷◌, length, arith}
+use Rattle.std.proofs.Common.{◌-◌, ◌∙◌, ap, sym, List, [], ◌++◌, ◌∷◌, arith}
 use Rattle.std.proofs.lemmas.List.{length-map}
 use Rattle.aso_token.specs.Reads.{tokens_of, onward}
 use Rattle.aso_token.specs.Marks.{comma}
