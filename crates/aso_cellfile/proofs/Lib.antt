@@ -6,3 +6,4 @@ pub mod Powers
 pub mod Sealed
 pub mod Spans
 pub mod Unique
+pub mod Openings

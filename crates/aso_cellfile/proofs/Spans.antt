@@ -1,13 +1,11 @@
 -- Where the blocks of an index lie.
-use Rattle.std.proofs.Common.{◌≡◌, ℕ, zero, suc, ◌+◌, ◌-◌, ◌*◌, ◌^◌, ◌<◌, ◌≤◌, List, [], ◌∷◌, ◌++◌, length, refl, sym, ◌∙◌, ap, subst, arith, add-one}
+use Rattle.std.proofs.Common.{◌≡◌, ℕ, zero, suc, ◌+◌, ◌*◌, ◌<◌, ◌≤◌, List, [], ◌∷◌, length, refl, sym, ◌∙◌, ap, subst, arith, add-one}
 use Rattle.std.proofs.lemmas.Option.{slice_get-get_or, slice_get-map, slice_get_read, slice_get_past}
 use Rattle.aso_cellfile.specs.declared.entry.Entry.{Entry as Placed}
 use Rattle.aso_cellfile.specs.Entries.{pair_of, pairs_of}
-use Rattle.std.specs.Prelude.{◌/◌, get_or, option_map, min, IfSome, Option, Some, None, slice_get}
-use Rattle.aso_runs.specs.Runs.{Entries}
-use Rattle.aso_cellfile.specs.Block.{IsBlock}
+use Rattle.std.specs.Prelude.{◌/◌, get_or, option_map, Option, Some, None, slice_get}
 use Rattle.aso_cellfile.specs.File.{Entry, greatest}
-use Rattle.aso_cellfile.specs.Opened.{Filed, AreEntries, IsIndex, blocks_of, place_or, key_or, IsBlockAt, IsSpan}
+use Rattle.aso_cellfile.specs.Opened.{AreEntries, IsIndex, place_or, key_or}
 
 -- a block lies between its place and the next one's, and its keys below the next one's
 pub record Lies (most end : ℕ) (e : Entry) (next : Option Entry) : Type 0 where

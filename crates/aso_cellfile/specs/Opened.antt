@@ -46,6 +46,19 @@ pub record HasForm (words bits count end : ℕ) (entries : List Entry) (bytes : 
   pub ends : end ≡ 8 + length body
   pub joined : bytes ≡ header words bits ++ (body ++ (index words entries ++ footer count end))
 
+-- an index of so many cells that begins at `end` fits a file of that size
+pub record Fits (words count end size : ℕ) : Type 0 where
+  pub least : 8 ≤ end
+  pub whole : end + (blocks_of count * (8 + 8 * words) + 24) ≡ size
+  pub none : count ≡ 0 → end ≡ 8
+
+-- the first 8 and the last 24 bytes of a file of that size
+pub record AreEnds (words bits count end size : ℕ) (head foot : List ℕ) : Type 0 where
+  pub few : count < 2 ^ 32
+  pub begins : head ≡ header words bits
+  pub stops : foot ≡ footer count end
+  pub fits : Fits words count end size
+
 -- what an open file keeps: an index within its size, and bytes of that form where they are told
 pub record IsFiled (words : ℕ) (f : Filed) : Type 0 where
   pub listed : IsIndex f.bits f.count f.place f.entries

@@ -92,7 +92,7 @@ fn ones(bits: u16) -> u128
 }
 
 // The greatest key of so many bits.
-fn greatest_key<const W: usize>(bits: u16) -> Words<W>
+pub(crate) fn greatest_key<const W: usize>(bits: u16) -> Words<W>
     requires some { 1 ≤ W }
     requires few { W ≤ 4 }
     requires held { bits ≤ 64 * W }
@@ -117,7 +117,7 @@ fn one_below<const W: usize>(key: &Words<W>) -> Words<W>
     key.minus(&one)
 }
 
-fn buffer_of(alloc: Global, size: usize) -> Result<Vec<u8>, AllocError>
+pub(crate) fn buffer_of(alloc: Global, size: usize) -> Result<Vec<u8>, AllocError>
     ensures { IfOk result (λ v. length v.items ≡ size) }
 {
     vec![in alloc; 0u8; size]

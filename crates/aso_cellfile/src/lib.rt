@@ -7,6 +7,7 @@ mod fault;
 mod file;
 mod ids;
 mod law;
+mod opening;
 mod sealing;
 mod steps;
 mod writer;

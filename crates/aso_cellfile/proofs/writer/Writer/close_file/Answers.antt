@@ -1,10 +1,9 @@
-use Rattle.std.proofs.Common.{rules, arith, ap, sym, ◌∙◌, subst, ◌≡◌, ℕ, List, [], ◌∷◌, ◌+◌, ◌*◌, ◌^◌, ◌<◌, ◌≤◌, ◌++◌, length}
-use Rattle.std.specs.Prelude.{Option, option_map, IfSome, Result, Ok, Err, IsErrOf}
+use Rattle.std.proofs.Common.{rules, ap, sym, ◌∙◌, subst, ◌≡◌, ℕ, List, [], ◌+◌, ◌^◌, ◌<◌, ◌++◌, length}
+use Rattle.std.specs.Prelude.{option_map, Result, Ok, Err, IsErrOf}
 use Rattle.aso_disk.specs.Shelf.{with_sealed}
 use Rattle.aso_cellfile.specs.Entries.{pairs_of}
-use Rattle.aso_cellfile.specs.File.{Block, AreFilled, cells_in, index, footer}
-use Rattle.aso_cellfile.specs.Making.{Making, Lays, Writes}
-use Rattle.aso_cellfile.specs.Opened.{Filed}
+use Rattle.aso_cellfile.specs.File.{cells_in, index, footer}
+use Rattle.aso_cellfile.specs.Making.{Making, Lays}
 use Rattle.aso_cellfile.proofs.Layouts.{told_more}
 use Rattle.aso_cellfile.proofs.Sealed.{Sealed, sealed}
 use Rattle.aso_cellfile.proofs.writer.Writer.close_file.Goals as goal

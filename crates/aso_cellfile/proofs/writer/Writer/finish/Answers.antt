@@ -1,9 +1,8 @@
-use Rattle.std.proofs.Common.{rules, arith, ap, sym, ◌∙◌, subst, refl, ◌≡◌, ℕ, List, [], ◌+◌, ◌-◌, ◌*◌, ◌<◌, ◌≤◌, ◌^◌, ◌++◌, length}
-use Rattle.std.specs.Prelude.{option_map, min, Result, Ok, Err, IsErrOf}
-use Rattle.aso_disk.specs.Causes.{HasCause, Rose}
+use Rattle.std.proofs.Common.{rules, arith, ap, sym, ◌∙◌, subst, ◌≡◌, ℕ, ◌≤◌, length}
+use Rattle.std.specs.Prelude.{option_map, Result, Ok, Err, IsErrOf}
+use Rattle.aso_disk.specs.Causes.{Rose}
 use Rattle.aso_disk.specs.Shelf.{with_sealed}
 use Rattle.aso_runs.specs.Runs.{Entries}
-use Rattle.aso_cellfile.specs.File.{Block, cells_in}
 use Rattle.aso_cellfile.specs.Opened.{IsFileOf}
 use Rattle.aso_cellfile.proofs.writer.Writer.finish.Goals as goal
 
