@@ -4,4 +4,5 @@ pub mod Outlined
 pub mod Created
 pub mod Covering
 pub mod Reopened
+pub mod Adding
 mod Examples
