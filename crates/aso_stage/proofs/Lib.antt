@@ -5,4 +5,5 @@ pub mod Created
 pub mod Covering
 pub mod Reopened
 pub mod Adding
+pub mod Rising
 mod Examples
