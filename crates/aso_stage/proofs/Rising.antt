@@ -1,5 +1,5 @@
 -- Cells that rise still do where an amount is added to one, and they fit the outline still.
-use Rattle.std.proofs.Common.{◌≡◌, ◌∙◌, ◌⊎◌, inl, inr, ℕ, suc, ◌+◌, ◌<◌, ◌≤◌, ◌^◌, ◌&&◌, Bool, true, false, List, [], ◌∷◌, length, map, eqb, Option, Some, None, refl, sym, ap, subst, arith}
+use Rattle.std.proofs.Common.{◌≡◌, ◌∙◌, ◌⊎◌, inl, inr, ℕ, suc, ◌+◌, ◌<◌, ◌≤◌, ◌^◌, ◌&&◌, Bool, true, false, List, [], ◌∷◌, length, map, eqb, Option, Some, None, refl, sym, ap, subst, arith, true≢false}
 use Rattle.std.specs.Prelude.{ℤ, ◌+ℤ◌, unsigned_abs, nat_lt, if◌then◌else◌}
 use Rattle.std.specs.Option.{option_and_then}
 use Rattle.std.proofs.lemmas.Bool.{ltb-true}
@@ -10,7 +10,10 @@ use Rattle.std.specs.Cmp.Lexicographic.{slice_cmp}
 use Rattle.std.specs.List.{list_all, AllByRecursion}
 use Rattle.std.proofs.lemmas.Cmp.{ranked}
 use Rattle.aso_catalog.specs.declared.record.LeafCell.{LeafCell}
-use Rattle.aso_catalog.specs.Record.{AreRising, IsAbove, IsBelow}
+use Rattle.aso_catalog.specs.Record.{AreRising, IsAbove, IsBelow, IsStorable}
+use Rattle.aso_outline.specs.Members.{data_leaves, dim_at}
+use Rattle.std.proofs.lemmas.List.FromFn.{length-map-range_with_len}
+use Rattle.std.proofs.lemmas.Bool.Decides.{Decides-eqb}
 use Rattle.aso_sheet.proofs.TestLemmas.{both}
 use Rattle.aso_spec.specs.Cells.{Key, key_order, add_at}
 use Rattle.aso_outline.specs.declared.draft.Draft.{Draft}
@@ -133,3 +136,36 @@ next_stands r o key z is leaves small =
 
 pub cells_small : (r : Record) (o : Draft) → recovered r ≡ Some (state_with r o) → AllByRecursion IsSmall r.cells
 cells_small r o is = all_small (leaf_counts o) r.cells (both (eqb r.dimensions (length o.dims)) (list_all (λ c. is_cell_of (leaf_counts o) (entry c)) r.cells) (parts_of r o is).1).1
+
+-- ---- what is stored again
+
+leaves_count : (counts key : List ℕ) → are_leaves counts key ≡ true → length key ≡ length counts
+leaves_count [] [] h = refl
+leaves_count [] (k ∷ ks) h = absurd (true≢false (sym h))
+leaves_count (c ∷ cs) [] h = absurd (true≢false (sym h))
+leaves_count (c ∷ cs) (k ∷ ks) h = let rest = leaves_count cs ks (both (nat_lt k c) (are_leaves cs ks) h).1 in omega (arith, rest)
+
+longer_by : (key : Key) (z : ℤ) (c : LeafCell) (cs : List LeafCell) (o : Ordering) → key_order key c.leaves ≡ o → length (add_cell key z cs) ≤ length cs + 1 → length (add_cell key z (c ∷ cs)) ≤ length (c ∷ cs) + 1
+longer_by key z c cs Less e rest = rw e (omega arith)
+longer_by key z c cs Equal e rest = rw e (omega arith)
+longer_by key z c cs Greater e rest = rw e (omega (arith, rest))
+
+pub one_longer : (key : Key) (z : ℤ) (cells : List LeafCell) → length (add_cell key z cells) ≤ length cells + 1
+one_longer key z [] = omega arith
+one_longer key z (c ∷ cs) = longer_by key z c cs (key_order key c.leaves) refl (one_longer key z cs)
+
+pub next_storable : (r : Record) (o : Draft) (key : Key) (z : ℤ) → recovered r ≡ Some (state_with r o) → are_leaves (leaf_counts o) key ≡ true → IsStorable r → length r.cells + 1 < 2 ^ 32 → IsStorable (added_record r key z)
+next_storable r o key z is leaves s few =
+    let parts = parts_of r o is in
+    let dims : r.dimensions ≡ length o.dims = (Decides-eqb r.dimensions (length o.dims)).0 (both (eqb r.dimensions (length o.dims)) (list_all (λ c. is_cell_of (leaf_counts o) (entry c)) r.cells) parts.1).0 in
+    let counted : length (leaf_counts o) ≡ length o.dims = length-map-range_with_len (λ d. length (data_leaves (dim_at o d))) 0 (length o.dims) in
+    let size : length key ≡ r.dimensions = leaves_count (leaf_counts o) key leaves ∙ counted ∙ sym dims in
+    let long = one_longer key z r.cells in
+    record {
+      older = omega (arith, s.older);
+      short = s.short;
+      least = s.least;
+      most = s.most;
+      few = omega (arith, long, few);
+      rising = still_rising r.dimensions key z size None r.cells s.rising tt;
+    }
