@@ -169,3 +169,18 @@ next_storable r o key z is leaves s few =
       few = omega (arith, long, few);
       rising = still_rising r.dimensions key z size None r.cells s.rising tt;
     }
+
+state_by : (r : Record) (s : State) (x : Option Draft) → option_and_then (λ (d : Draft). if fits_outline r d then Some (state_with r d) else None) x ≡ Some s → s ≡ state_with r s.outline
+state_by r s None is = absurd (cc is)
+state_by r s (Some d) is = by (fits_outline r d) is
+  where
+    by : (b : Bool) → (if b then Some (state_with r d) else None) ≡ Some s → s ≡ state_with r s.outline
+    by true got =
+        let same_state : state_with r d ≡ s = cc got in
+        subst (λ (t : State). t ≡ state_with r t.outline) same_state refl
+    by false got = absurd (cc got)
+
+-- a record's state is the record with the state's outline
+pub state_is : (r : Record) (s : State) → recovered r ≡ Some s → s ≡ state_with r s.outline
+unfolding recovered
+state_is r s is = state_by r s (outline_of r.outline) is

@@ -2,6 +2,7 @@
 //! every crash.
 #![tactic(auto)]
 
+mod amount;
 mod answer;
 mod bits;
 mod bodies;
@@ -15,6 +16,7 @@ mod outlines;
 mod reopening;
 mod store;
 
+pub use amount::next_body;
 pub use answer::Answer;
 pub use cells::{add_cell, sum_in};
 pub use committing::publish_next;
