@@ -4,4 +4,6 @@ pub mod Outlined
 pub mod Created
 pub mod Covering
 pub mod Reopened
+pub mod Adding
+pub mod Rising
 mod Examples

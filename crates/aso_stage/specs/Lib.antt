@@ -7,3 +7,5 @@ pub mod Opening
 pub mod Create
 pub mod Stores
 pub mod Opened
+pub mod Names
+pub mod CellSteps

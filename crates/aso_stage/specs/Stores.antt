@@ -2,7 +2,9 @@
 use Rattle.std.specs.Prelude.{◌≡◌, Option, Some, None}
 use Rattle.aso_catalog.specs.declared.record.Record.{Record}
 use Rattle.aso_stage.specs.declared.store.Store.{Store}
-use Rattle.aso_stage.specs.Store.{State, recovered, state_with}
+use Rattle.std.specs.Prelude.{ℤ, map}
+use Rattle.aso_spec.specs.Cells.{Key, add_at}
+use Rattle.aso_stage.specs.Store.{State, committed, entry, recovered, state_with}
 
 abbrev pub state_of : Store → State
 state_of store = state_with store.saved store.outline
@@ -15,3 +17,7 @@ IsStore store = recovered store.saved ≡ Some (state_of store)
 abbrev pub IsStoreOf : Record → Option Store → Type 0
 IsStoreOf r None = recovered r ≡ None
 IsStoreOf r (Some store) = (store.saved ≡ r) × IsStore store
+
+-- its state after the commit of an amount that is added to a cell
+abbrev pub added_state : Store → Key → ℤ → State
+added_state store key z = committed (state_of store) (add_at key z (map entry store.saved.cells))

@@ -2,19 +2,27 @@
 //! every crash.
 #![tactic(auto)]
 
+mod amount;
 mod answer;
 mod bits;
 mod bodies;
+mod cells;
 mod committing;
 mod making;
+mod naming;
+mod next;
 mod opening;
 mod outlines;
 mod reopening;
 mod store;
 
+pub use amount::next_body;
 pub use answer::Answer;
+pub use cells::{add_cell, sum_in};
 pub use committing::publish_next;
 pub use making::create;
+pub use naming::{first_unknown, misplaced, seat_of_text, wrong_in_axis, wrong_in_slicer};
+pub use next::next_record;
 pub use outlines::read_outline;
 pub use reopening::open_store;
 pub use store::{Store, recover};

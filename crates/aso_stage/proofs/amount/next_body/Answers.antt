@@ -1,0 +1,30 @@
+use Rattle.std.proofs.Common.{◌≡◌, ◌∙◌, ◌≤◌, ◌+◌, ◌*◌, ℕ, Some, length, ap, sym, arith, rules}
+use Rattle.std.proofs.Math.Nat.{mul-le-mul_right}
+use Rattle.aso_catalog.specs.Record.{longest, longest_cell}
+use Rattle.aso_stage.specs.Store.{State, recovered, state_with}
+use Rattle.aso_stage.specs.Stores.{added_state}
+use Rattle.aso_stage.proofs.Outlined.{text_short}
+use Rattle.aso_stage.proofs.Rising.{parts_of, state_is}
+use Rattle.aso_stage.proofs.amount.next_body.Goals as goal
+
+pub returns-clause-short : goal.returns-clause-short
+returns-clause-short c =
+    let next = c.in_ok-next.next in
+    let made = c.in_ok-next.ensures in
+    let r = c.args.store.now.saved in
+    let long = ap length made.outline in
+    let text = text_short r.outline c.args.store.now.outline (parts_of r c.args.store.now.outline c.requires.store).0 in
+    let few : length next.cells ≤ 1000 = omega (arith, made.cells, c.requires.few) in
+    let cells : length next.cells * longest_cell next.dimensions ≤ 1000 * longest_cell next.dimensions = mul-le-mul_right (longest_cell next.dimensions) few in
+    omega (arith, c.in_ok-body.ensures.short, long, text, cells, made.storable.most)
+
+pub returns-clause-state : goal.returns-clause-state
+returns-clause-state c =
+    let s : State = added_state c.args.store.now c.args.key.now c.args.amount in
+    sym (state_is c.in_ok-next.next s (search rules))
+
+pub returns-clause-stands : goal.returns-clause-stands
+returns-clause-stands c =
+    let s : State = added_state c.args.store.now c.args.key.now c.args.amount in
+    let stands : recovered c.in_ok-next.next ≡ Some s = search rules in
+    stands ∙ ap (λ (x : State). Some x) (state_is c.in_ok-next.next s stands)
