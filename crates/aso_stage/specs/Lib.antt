@@ -9,3 +9,4 @@ pub mod Stores
 pub mod Opened
 pub mod Names
 pub mod CellSteps
+pub mod Verdicts
