@@ -1,5 +1,5 @@
 -- The machine, computed on one store and one script.
-use Rattle.std.proofs.Common.{◌≡◌, ℕ, ◌+◌, List, [], ◌∷◌, ◌++◌, refl, codes, pos, Some, None, true}
+use Rattle.std.proofs.Common.{◌≡◌, ℕ, ◌+◌, ◌-◌, ◌^◌, List, [], ◌∷◌, ◌++◌, refl, codes, pos, Some, None, true}
 use Rattle.std.specs.Fmt.{digits}
 use Rattle.aso_outline.specs.declared.draft.Draft.{Draft}
 use Rattle.aso_outline.specs.Members.{seats, find, leaf_names, holds, parents_of}
@@ -102,3 +102,8 @@ too_great : said (committed first ((0 ∷ 0 ∷ [], pos 999999999999999999) ∷ 
     ≡ Refuses (codes "210 amount range: Jan, NY, 100000000000000.0000")
 unfolding said lines_read read_sheet draft_of seats named ordinals_named key_named leaf_names digits
 too_great = refl
+
+-- at the last layout that comes first
+at_the_end : said (record { text = text; outline = outline; cells = (0 ∷ 0 ∷ [], pos 999999999999999999) ∷ []; commit = 1; layout = 2 ^ 64 - 1 }) 0 (Some (add (codes "Jan") (codes "NY") (codes "0.0001"))) ≡ Refuses (codes "215 sequence end")
+unfolding said lines_read read_sheet draft_of seats named ordinals_named key_named
+at_the_end = refl

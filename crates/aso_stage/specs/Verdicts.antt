@@ -1,5 +1,5 @@
 -- What the code says of a line, as the machine has it.
-use Rattle.std.specs.Prelude.{◌≡◌, ◌≤◌, ◌<◌, ◌^◌, ℕ, ℤ, true, length, map, nat_lt, unsigned_abs, Option}
+use Rattle.std.specs.Prelude.{◌≡◌, ◌-◌, ◌≤◌, ◌<◌, ◌^◌, ℕ, ℤ, true, length, map, nat_lt, unsigned_abs, Option}
 use Rattle.std.specs.Option.{option_map}
 use Rattle.std.specs.Borrow.{Bor}
 use Rattle.aso_spec.specs.Cells.{Key, add_at}
@@ -18,8 +18,10 @@ use Rattle.aso_stage.specs.Machine.{Refuses, Shows, Changes, said}
 abbrev pub read : Option (Bor Read) → Option Statement
 read found = option_map (λ s. statement s.now) found
 
--- The amount may be added to the cell: its leaves are the outline's, the sum is in range, and there are few cells then.
+-- The amount may be added to the cell: a layout is left, its leaves are the outline's, the sum is in range, and there are
+-- few cells then.
 pub record MayCommit (store : Store) (key : Key) (z : ℤ) : Type 0 where
+  pub room : store.saved.layout < 2 ^ 64 - 1
   pub leaves : are_leaves (leaf_counts store.outline) key ≡ true
   pub amount : unsigned_abs z < 10 ^ 18
   pub sum : nat_lt (unsigned_abs (sum_in key z store.saved.cells)) (10 ^ 18) ≡ true
