@@ -12,7 +12,7 @@ use Rattle.aso_stage.specs.declared.verdict.Verdict.TheVariants.{Refused, Grid, 
 use Rattle.aso_stage.specs.CellSteps.{sum_in}
 use Rattle.aso_stage.specs.Store.{are_leaves, entry, leaf_counts}
 use Rattle.aso_stage.specs.Stores.{state_of}
-use Rattle.aso_stage.specs.Machine.{Refuses, Shows, Changes, said}
+use Rattle.aso_stage.specs.Machine.{Said, Refuses, Shows, Changes, said}
 
 -- the statement that was read of a line, if one was
 abbrev pub read : Option (Bor Read) → Option Statement
@@ -27,8 +27,12 @@ pub record MayCommit (store : Store) (key : Key) (z : ℤ) : Type 0 where
   pub sum : nat_lt (unsigned_abs (sum_in key z store.saved.cells)) (10 ^ 18) ≡ true
   pub few : length (add_at key z (map entry store.saved.cells)) ≤ 1000
 
+-- what is said, as the code says it
+abbrev pub IsVerdictOf : Store → Said → Verdict → Type 0
+IsVerdictOf store is (Refused text) = is ≡ Refuses text.items
+IsVerdictOf store is (Grid rows columns text) = is ≡ Shows rows columns text.items
+IsVerdictOf store is (Commit key z) = (is ≡ Changes (add_at key.items z (map entry store.saved.cells))) × MayCommit store key.items z
+
 -- what the line at a byte comes to
 abbrev pub IsVerdict : Store → ℕ → Option Statement → Verdict → Type 0
-IsVerdict store at s (Refused text) = said (state_of store) at s ≡ Refuses text.items
-IsVerdict store at s (Grid rows columns text) = said (state_of store) at s ≡ Shows rows columns text.items
-IsVerdict store at s (Commit key z) = (said (state_of store) at s ≡ Changes (add_at key.items z (map entry store.saved.cells))) × MayCommit store key.items z
+IsVerdict store at s v = IsVerdictOf store (said (state_of store) at s) v
