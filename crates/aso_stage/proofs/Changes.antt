@@ -1,11 +1,10 @@
 -- How many cells there are once an amount is added to one, what the cell then has, and what that comes to.
-use Rattle.std.proofs.Common.{◌≡◌, ◌∙◌, ℕ, zero, suc, ◌+◌, ◌<◌, ◌≤◌, ◌^◌, Bool, true, false, cond, codes, List, [], ◌∷◌, ◌++◌, map, length, drop, Option, Some, None, refl, sym, ap, subst, arith}
-use Rattle.std.specs.Prelude.{ℤ, ◌+ℤ◌, nat_le, nat_lt, unsigned_abs, unwrap_or}
+use Rattle.std.proofs.Common.{◌≡◌, ◌∙◌, ℕ, suc, ◌+◌, ◌<◌, ◌≤◌, ◌^◌, Bool, true, false, cond, codes, List, [], ◌∷◌, ◌++◌, map, length, drop, Some, None, refl, sym, ap, arith}
+use Rattle.std.specs.Prelude.{ℤ, nat_le, nat_lt, unsigned_abs, unwrap_or}
 use Rattle.std.specs.Fmt.{decimal}
 use Rattle.std.specs.declared.cmp.Ordering.{Ordering}
 use Rattle.std.specs.declared.cmp.Ordering.TheVariants.{Less, Equal, Greater}
-use Rattle.std.specs.Ordering.{is_eq, nat_cmp}
-use Rattle.std.specs.Cmp.Lexicographic.{slice_cmp}
+use Rattle.std.specs.Ordering.{is_eq}
 use Rattle.std.specs.List.{prefix_len}
 use Rattle.std.proofs.lemmas.Bool.{le-leb, lt-leb, lt-ltb, le-ltb}
 use Rattle.std.proofs.lemmas.Cmp.{nat_list_cmp_total, tied_itself}
@@ -13,7 +12,7 @@ use Rattle.aso_num.specs.declared.value.Val.TheVariants.{Num}
 use Rattle.aso_num.specs.Numbers.{value_text}
 use Rattle.aso_outline.specs.declared.draft.Draft.{Draft}
 use Rattle.aso_catalog.specs.declared.record.LeafCell.{LeafCell}
-use Rattle.aso_spec.specs.Cells.{Key, add_at, amount_at, key_order}
+use Rattle.aso_spec.specs.Cells.{Key, add_at, key_order}
 use Rattle.aso_spec.specs.Grid.{label}
 use Rattle.aso_stage.specs.CellSteps.{add_cell, is_before, is_first, sum_in}
 use Rattle.aso_stage.specs.Machine.{Said, Refuses, Changes, added_to, cell_names, sum_at}

@@ -1,13 +1,13 @@
 -- The machine, computed on one store and one script.
-use Rattle.std.proofs.Common.{◌≡◌, ℕ, ◌+◌, ◌-◌, ◌^◌, List, [], ◌∷◌, ◌++◌, refl, codes, pos, Some, None, true}
+use Rattle.std.proofs.Common.{◌≡◌, ℕ, ◌+◌, ◌-◌, ◌^◌, List, [], ◌∷◌, ◌++◌, refl, codes, pos, Some, None}
 use Rattle.std.specs.Fmt.{digits}
 use Rattle.aso_outline.specs.declared.draft.Draft.{Draft}
-use Rattle.aso_outline.specs.Members.{seats, find, leaf_names, holds, parents_of}
+use Rattle.aso_outline.specs.Members.{seats, leaf_names, holds}
 use Rattle.aso_outline.specs.Ranks.{named, rank, needs_itself}
 use Rattle.aso_outline.specs.Rules.{broken, has_counts, is_name, is_atom, key_bits}
-use Rattle.aso_spec.specs.Cells.{Cells, stored}
+use Rattle.aso_spec.specs.Cells.{stored}
 use Rattle.aso_spec.specs.Named.{ordinals_named, key_named}
-use Rattle.aso_spec.specs.Grid.{grid_text, grid_head, end_line, error_line}
+use Rattle.aso_spec.specs.Grid.{grid_text, grid_head, end_line}
 use Rattle.aso_spec.specs.Reading.{read_sheet}
 use Rattle.aso_spec.specs.Drafts.{draft_of}
 use Rattle.aso_spec.specs.Script.{Statement, Add, Select}

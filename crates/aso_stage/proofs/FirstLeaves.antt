@@ -1,9 +1,9 @@
 -- The first leaf that names name in each dimension, and the cell of these leaves.
-use Rattle.std.proofs.Common.{◌≡◌, ◌∙◌, ℕ, zero, suc, ◌+◌, ◌<◌, ◌&&◌, Bool, true, false, cond, eqb, List, [], ◌∷◌, ◌++◌, map, length, get_or, Option, Some, None, refl, sym, ap, subst, arith, true≢false, set, eq-eqb, get_or-set_same, get_or-set_other}
-use Rattle.std.specs.Prelude.{IfSome, is_none, nat_lt, slice_get, slice_index, unwrap_or}
+use Rattle.std.proofs.Common.{◌≡◌, ◌∙◌, ℕ, zero, suc, ◌+◌, ◌-◌, ◌<◌, Bool, true, false, cond, eqb, List, [], ◌∷◌, ◌++◌, map, length, get_or, Option, Some, None, refl, sym, ap, subst, arith, true≢false}
+use Rattle.std.specs.Prelude.{IfSome, is_none, is_some, nat_lt, slice_get, slice_index, unwrap_or}
 use Rattle.std.specs.Option.{option_and_then, option_map, option_or}
 use Rattle.std.specs.List.{cons_option, filter_map, find, range_with_len}
-use Rattle.std.proofs.lemmas.Bool.{eqb-true, lt-ltb}
+use Rattle.std.proofs.lemmas.Bool.{eqb-true, lt-ltb, ltb-true}
 use Rattle.std.proofs.lemmas.List.{length-map}
 use Rattle.std.proofs.lemmas.List.Elements.{filter_map-append}
 use Rattle.std.proofs.lemmas.List.FromFn.{fill_by_all}
@@ -14,9 +14,11 @@ use Rattle.aso_outline.specs.Kept.{HasDataLeaves}
 use Rattle.aso_outline.specs.Members.{Name, dim_at}
 use Rattle.aso_outline.specs.Ranks.{named}
 use Rattle.aso_spec.specs.Named.{key_named, ordinal_in, ordinals_named}
+use Rattle.aso_sheet.proofs.TestLemmas.{both}
 use Rattle.aso_stage.specs.Machine.{lacking}
 use Rattle.aso_stage.specs.Slots.{AreFirst, IsLeaf, leaf_in, leaves_in, slot_at}
 use Rattle.aso_stage.specs.Store.{are_leaves, leaf_counts}
+use Rattle.aso_stage.proofs.Rising.{and_true}
 
 -- ---- one name more
 
@@ -61,7 +63,7 @@ pub first_of_none : (o : Draft) (slots : List (Option ℕ)) → length slots ≡
 unfolding ordinals_named
 first_of_none o slots long empty = (long, λ d low. (empty d, subst (λ (x : Option ℕ). IfSome x (λ k. k < leaf_count o d)) (sym (empty d)) tt))
 
--- ---- a slot that is filled
+-- ---- the dimension that is lacking
 
 unequal : (a b : ℕ) → (a ≡ b → ⊥) → eqb a b ≡ false
 unequal a b ne = by (eqb a b) refl
@@ -69,40 +71,6 @@ unequal a b ne = by (eqb a b) refl
     by : (x : Bool) → eqb a b ≡ x → eqb a b ≡ false
     by true e = absurd (ne (eqb-true a b e))
     by false e = e
-
-or_none : (x : Option ℕ) → x ≡ option_or x None
-or_none None = refl
-or_none (Some y) = refl
-
-pub fill_none : (slots : List (Option ℕ)) (d : ℕ) → slot_at slots d ≡ option_or (slot_at slots d) (leaf_in d None)
-fill_none slots d = or_none (slot_at slots d)
-
-or_some : (x y : Option ℕ) → is_none x ≡ false → x ≡ option_or x y
-or_some None y h = absurd (true≢false h)
-or_some (Some z) y h = refl
-
-taken_by_test : (slots : List (Option ℕ)) (dim leaf d : ℕ) (b : Bool) → eqb d dim ≡ b → is_none (slot_at slots dim) ≡ false → slot_at slots d ≡ option_or (slot_at slots d) (cond b (Some leaf) None)
-taken_by_test slots dim leaf d true e taken = or_some (slot_at slots d) (Some leaf) (ap (λ (k : ℕ). is_none (slot_at slots k)) (eqb-true d dim e) ∙ taken)
-taken_by_test slots dim leaf d false e taken = or_none (slot_at slots d)
-
-pub fill_taken : (slots : List (Option ℕ)) (dim leaf d : ℕ) → is_none (slot_at slots dim) ≡ false → slot_at slots d ≡ option_or (slot_at slots d) (leaf_in d (Some (dim, leaf)))
-fill_taken slots dim leaf d taken = taken_by_test slots dim leaf d (eqb d dim) refl taken
-
-empty_or : (x : Option ℕ) (leaf : ℕ) → is_none x ≡ true → Some leaf ≡ option_or x (Some leaf)
-empty_or None leaf h = refl
-empty_or (Some y) leaf h = absurd (true≢false (sym h))
-
-placed_by_test : (slots : List (Option ℕ)) (dim leaf d : ℕ) (b : Bool) → eqb d dim ≡ b → dim < length slots → is_none (slot_at slots dim) ≡ true → slot_at (set slots dim (Some leaf)) d ≡ option_or (slot_at slots d) (cond b (Some leaf) None)
-placed_by_test slots dim leaf d true e low free =
-    let same = eqb-true d dim e in
-    ap (slot_at (set slots dim (Some leaf))) same ∙ get_or-set_same slots dim (Some leaf) None low ∙ empty_or (slot_at slots dim) leaf free ∙ ap (λ (k : ℕ). option_or (slot_at slots k) (Some leaf)) (sym same)
-placed_by_test slots dim leaf d false e low free =
-    get_or-set_other slots dim d (Some leaf) None (λ (same : d ≡ dim). true≢false (sym (eq-eqb d dim same) ∙ e)) ∙ or_none (slot_at slots d)
-
-pub fill_placed : (slots : List (Option ℕ)) (dim leaf d : ℕ) → dim < length slots → is_none (slot_at slots dim) ≡ true → slot_at (set slots dim (Some leaf)) d ≡ option_or (slot_at slots d) (leaf_in d (Some (dim, leaf)))
-fill_placed slots dim leaf d low free = placed_by_test slots dim leaf d (eqb d dim) refl low free
-
--- ---- the dimension that is lacking
 
 none_first : (xs : List ℕ) → is_none (slice_get xs 0) ≡ eqb (length xs) 0
 none_first [] = refl
@@ -113,6 +81,15 @@ found_alike p q a zero same = refl
 found_alike p q a (suc n) same =
     ap (λ (b : Bool). cond b (Some a) (find p (range_with_len (a + 1) n))) (same a (omega arith))
     ∙ ap (λ (x : Option ℕ). cond (q a) (Some a) x) (found_alike p q (a + 1) n (λ d low. same d (omega (arith, low))))
+
+pub none_of_some : (x : Option ℕ) → is_some x ≡ true → is_none x ≡ false
+none_of_some None h = absurd (true≢false (sym h))
+none_of_some (Some y) h = refl
+
+pub find_next : (p : ℕ → Bool) (i n : ℕ) → i < n → p i ≡ false → find p (range_with_len i (n - i)) ≡ find p (range_with_len (i + 1) (n - (i + 1)))
+find_next p i n low h =
+    let one_more : n - i ≡ suc (n - (i + 1)) = omega (arith, low) in
+    ap (λ (k : ℕ). find p (range_with_len i k)) one_more ∙ ap (λ (b : Bool). cond b (Some i) (find p (range_with_len (i + 1) (n - (i + 1))))) h
 
 pub lacking_is : (o : Draft) (names : List Name) (slots : List (Option ℕ)) → AreFirst o names slots
     → option_map (λ d. (dim_at o d).name) (find (λ d. is_none (slot_at slots d)) (places_of slots)) ≡ lacking o names
@@ -139,10 +116,6 @@ key_is o names slots are =
     fill_by_all (λ d. slice_index (ordinals_named o names d) 0) (leaves_in slots) (length o.dims) 0 (length-map slots (λ (slot : Option ℕ). unwrap_or slot 0) ∙ are.0)
     (λ k low. leaf_at slots k ∙ ap (λ (x : Option ℕ). unwrap_or x 0) (are.1 k low).0 ∙ first_or_zero (ordinals_named o names k))
 
-and_true : (a b : Bool) → a ≡ true → b ≡ true → (a && b) ≡ true
-and_true true b ha hb = hb
-and_true false b ha hb = ha
-
 below_all : (f : ℕ → ℕ) (n a : ℕ) (xs : List ℕ) → length xs ≡ n → ((k : ℕ) → k < n → get_or xs k 0 < f (a + k)) → are_leaves (map f (range_with_len a n)) xs ≡ true
 below_all f zero a [] long below = refl
 below_all f zero a (x ∷ xs) long below = absurd (omega (arith, long))
@@ -159,3 +132,23 @@ pub leaves_are : (o : Draft) (names : List Name) (slots : List (Option ℕ)) →
 leaves_are o names slots has are =
     below_all (leaf_count o) (length o.dims) 0 (leaves_in slots) (length-map slots (λ (slot : Option ℕ). unwrap_or slot 0) ∙ are.0)
     (λ k low. subst (λ (x : ℕ). x < leaf_count o (0 + k)) (sym (leaf_at slots k)) (subst (λ (j : ℕ). unwrap_or (slot_at slots k) 0 < leaf_count o j) (omega arith) (small_or_zero (leaf_count o k) (slot_at slots k) (has k low) (are.1 k low).1)))
+
+-- ---- the leaves of a cell
+
+long_by : (f : ℕ → ℕ) (n a : ℕ) (xs : List ℕ) → are_leaves (map f (range_with_len a n)) xs ≡ true → length xs ≡ n
+long_by f zero a [] h = refl
+long_by f zero a (x ∷ xs) h = absurd (true≢false (sym h))
+long_by f (suc n) a [] h = absurd (true≢false (sym h))
+long_by f (suc n) a (x ∷ xs) h = let rest = long_by f n (a + 1) xs (both (nat_lt x (f a)) _ h).1 in omega (arith, rest)
+
+below_by : (f : ℕ → ℕ) (n a : ℕ) (xs : List ℕ) (k : ℕ) → are_leaves (map f (range_with_len a n)) xs ≡ true → k < n → get_or xs k 0 < f (a + k)
+below_by f zero a xs k h low = absurd (omega (arith, low))
+below_by f (suc n) a [] k h low = absurd (true≢false (sym h))
+below_by f (suc n) a (x ∷ xs) zero h low = subst (λ (j : ℕ). x < f j) (omega arith) (ltb-true x (f a) (both (nat_lt x (f a)) (are_leaves (map f (range_with_len (a + 1) n)) xs) h).0)
+below_by f (suc n) a (x ∷ xs) (suc k) h low = subst (λ (j : ℕ). get_or xs k 0 < f j) (omega arith) (below_by f n (a + 1) xs k (both (nat_lt x (f a)) (are_leaves (map f (range_with_len (a + 1) n)) xs) h).1 (omega (arith, low)))
+
+pub leaves_long : (o : Draft) (key : List ℕ) → are_leaves (leaf_counts o) key ≡ true → length key ≡ length o.dims
+leaves_long o key h = long_by (leaf_count o) (length o.dims) 0 key h
+
+pub leaf_below : (o : Draft) (key : List ℕ) (d : ℕ) → are_leaves (leaf_counts o) key ≡ true → d < length o.dims → get_or key d 0 < leaf_count o d
+leaf_below o key d h low = subst (λ (j : ℕ). get_or key d 0 < leaf_count o j) (omega arith) (below_by (leaf_count o) (length o.dims) 0 key d h low)

@@ -1,5 +1,5 @@
 -- Cells that rise still do where an amount is added to one, and they fit the outline still.
-use Rattle.std.proofs.Common.{◌≡◌, ◌∙◌, ◌⊎◌, inl, inr, ℕ, suc, ◌+◌, ◌<◌, ◌≤◌, ◌^◌, ◌&&◌, Bool, true, false, List, [], ◌∷◌, length, map, eqb, Option, Some, None, refl, sym, ap, subst, arith, true≢false}
+use Rattle.std.proofs.Common.{◌≡◌, ◌∙◌, inl, inr, ℕ, ◌+◌, ◌<◌, ◌^◌, ◌&&◌, Bool, true, false, List, [], ◌∷◌, length, map, eqb, Option, Some, None, refl, sym, ap, subst, arith, true≢false}
 use Rattle.std.specs.Prelude.{ℤ, ◌+ℤ◌, unsigned_abs, nat_lt, if◌then◌else◌}
 use Rattle.std.specs.Option.{option_and_then}
 use Rattle.std.proofs.lemmas.Bool.{ltb-true}
@@ -22,7 +22,7 @@ use Rattle.aso_catalog.specs.declared.record.Record.{Record}
 use Rattle.aso_stage.specs.Outlines.{outline_of}
 use Rattle.aso_stage.proofs.Outlined.{stands_by}
 use Rattle.aso_stage.specs.Store.{State, are_leaves, committed, entry, fits_outline, is_cell_of, leaf_counts, recovered, state_with}
-use Rattle.aso_stage.specs.CellSteps.{IsSmall, add_cell, cell_at, sum_in}
+use Rattle.aso_stage.specs.CellSteps.{IsSmall, add_cell, sum_in}
 
 below_by : (x y : ℕ) (xs ys : List ℕ) (o : Ordering) → MatchOrdering o (x < y) (x ≡ y) (y < x) → (slice_cmp nat_cmp xs ys ≡ Less → IsBelow xs ys) → ordering_then o (slice_cmp nat_cmp xs ys) ≡ Less → IsBelow (x ∷ xs) (y ∷ ys)
 below_by x y xs ys Less m rest e = inl m
@@ -57,7 +57,7 @@ module _ (dimensions : ℕ) (key : Key) (z : ℤ) (size : length key ≡ dimensi
   still_rising before [] rising above = (size, above, tt)
   still_rising before (c ∷ cs) rising above = rising_by before c cs (key_order key c.leaves) refl rising above (λ below. still_rising (Some c.leaves) cs rising.2 below)
 
-and_true : (a b : Bool) → a ≡ true → b ≡ true → (a && b) ≡ true
+pub and_true : (a b : Bool) → a ≡ true → b ≡ true → (a && b) ≡ true
 and_true true b ha hb = hb
 and_true false b ha hb = ha
 

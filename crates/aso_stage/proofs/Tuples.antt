@@ -19,7 +19,7 @@ use Rattle.aso_sheet.specs.Shown.{Shows, held_by, shown_member}
 use Rattle.aso_sheet.specs.Sums.{held_at, passes}
 use Rattle.aso_sheet.proofs.SumLemmas.{held_by-at, of_dim-at}
 use Rattle.aso_stage.specs.Grids.{IsBased, held_with, lines_in, lone_values, row_line, total_in, values_in}
-use Rattle.aso_stage.specs.Machine.{Said, Shows as ShowsGrid, chosen_of, query_grid, tuples, value_of}
+use Rattle.aso_stage.specs.Machine.{Shows as ShowsGrid, chosen_of, query_grid, tuples, value_of}
 use Rattle.aso_stage.specs.Store.{entry}
 
 -- ---- sums
@@ -147,3 +147,18 @@ module _ (o : Draft) (slicer : List Name) (cells : List LeafCell) where
   grid_is columns rows cs rs =
       ap (λ (heads : List (List ℕ)). ShowsGrid (length (tuples rows)) (length columns) (tabbed [] heads ++ flat_map (line columns) (tuples rows))) (sym (heads_are columns))
       ∙ ap (λ (text : List ℕ). ShowsGrid (length (tuples rows)) (length columns) (tabbed [] (map (λ (m : Member). shown m.name) (map (shown_member o) columns)) ++ text)) (sym (lines_are columns rows cs rs))
+
+pub grid_made : (o : Draft) (columns : List Name) (rows : Option (List Name)) (slicer : List Name) (cells read : List LeafCell) (found : List Seat) (held : List (List Bool)) (members heads : List Member) (start head out : List ℕ) (count : ℕ)
+    → found ≡ map (seat_of o) slicer → held ≡ held_with o found → members ≡ map (shown_member o) columns → heads ≡ map (shown_member o) columns → read ≡ cells → start ≡ []
+    → head ≡ start ++ tabbed [] (map (λ (m : Member). shown m.name) heads) → out ≡ head ++ lines_in o held read members rows → count ≡ length (tuples rows)
+    → AllByRecursion (IsBased o) columns → AllByRecursion (IsBased o) (unwrap_or rows []) → query_grid o (map entry cells) columns rows slicer ≡ ShowsGrid count (length columns) out
+grid_made o columns rows slicer cells read found held members heads start head out count found_is held_is members_is heads_is read_is start_is head_is out_is count_is cs rs =
+    let first : List ℕ = tabbed [] (map (λ (m : Member). shown m.name) (map (shown_member o) columns)) in
+    let head_all : head ≡ first = head_is ∙ ap (λ (xs : List ℕ). xs ++ tabbed [] (map (λ (m : Member). shown m.name) heads)) start_is ∙ ap (λ (ms : List Member). tabbed [] (map (λ (m : Member). shown m.name) ms)) heads_is in
+    let all : out ≡ first ++ lines_in o (held_with o (map (seat_of o) slicer)) cells (map (shown_member o) columns) rows =
+    out_is ∙ ap (λ (xs : List ℕ). xs ++ lines_in o held read members rows) head_all
+    ∙ ap (λ (ms : List Member). first ++ lines_in o held read ms rows) members_is
+    ∙ ap (λ (h : List (List Bool)). first ++ lines_in o h read (map (shown_member o) columns) rows) (held_is ∙ ap (held_with o) found_is)
+    ∙ ap (λ (xs : List LeafCell). first ++ lines_in o (held_with o (map (seat_of o) slicer)) xs (map (shown_member o) columns) rows) read_is in
+    grid_is o slicer cells columns rows cs rs
+    ∙ sym (ap (λ (n : ℕ). ShowsGrid n (length columns) out) count_is ∙ ap (ShowsGrid (length (tuples rows)) (length columns)) all)

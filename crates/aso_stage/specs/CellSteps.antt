@@ -1,5 +1,5 @@
 -- The cells of a record where an amount is added to one.
-use Rattle.std.specs.Prelude.{◌≡◌, ℕ, ◌<◌, ◌^◌, ℤ, ◌+ℤ◌, unsigned_abs, Bool, false, List, [], ◌∷◌}
+use Rattle.std.specs.Prelude.{◌≡◌, ◌<◌, ◌^◌, ℤ, ◌+ℤ◌, unsigned_abs, Bool, false, List, [], ◌∷◌}
 use Rattle.std.specs.Ordering.{is_eq, is_gt, match_ordering}
 use Rattle.aso_spec.specs.Cells.{Key, key_order}
 use Rattle.aso_catalog.specs.declared.record.LeafCell.{LeafCell}

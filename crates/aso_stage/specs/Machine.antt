@@ -1,5 +1,5 @@
 -- The machine that a store is: what a statement comes to, on a state.
-use Rattle.std.specs.Prelude.{◌≡◌, ◌⊎◌, ℕ, ◌+◌, ◌-◌, ◌^◌, Bool, true, false, not, ◌&&◌, List, [], ◌∷◌, ◌++◌, map, length, Option, Some, None, is_none, is_some, ℤ, pos, ◌+ℤ◌, unsigned_abs, nat_lt, nat_le, ◌==◌, if◌then◌else◌, slice_index, slice_index_or, unwrap_or, codes}
+use Rattle.std.specs.Prelude.{◌≡◌, ◌⊎◌, ℕ, ◌+◌, ◌-◌, ◌^◌, Bool, not, ◌&&◌, List, [], ◌∷◌, ◌++◌, map, length, Option, Some, None, is_none, ℤ, pos, unsigned_abs, nat_lt, nat_le, ◌==◌, if◌then◌else◌, slice_index, slice_index_or, unwrap_or, codes}
 use Rattle.std.specs.Option.{option_map, option_or}
 use Rattle.std.specs.Result.{result_unwrap_or}
 use Rattle.std.specs.List.{find, list_any}

@@ -1,5 +1,5 @@
 -- The leaves that names name, dimension by dimension.
-use Rattle.std.specs.Prelude.{◌≡◌, ◌<◌, ℕ, List, [], map, Option, Some, None, IfSome, ◌==◌, if◌then◌else◌, slice_get, slice_index_or, unwrap_or, length}
+use Rattle.std.specs.Prelude.{◌≡◌, ◌<◌, ℕ, List, map, Option, Some, None, IfSome, ◌==◌, if◌then◌else◌, slice_get, slice_index_or, unwrap_or, length}
 use Rattle.aso_outline.specs.declared.draft.Draft.{Draft}
 use Rattle.aso_outline.specs.Classes.{leaf_count}
 use Rattle.aso_outline.specs.Members.{Name}

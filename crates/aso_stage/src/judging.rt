@@ -84,7 +84,7 @@ pub fn judge(
 ) -> Result<Verdict, NoMemory>
     requires store { IsStore store.now }
     requires storable { IsStorable store.now.saved }
-    ensures { IfOk result (IsVerdict store.now at (read statement)) }
+    ensures { IfOk result (IsVerdict store.now at (read statement.entry)) }
 {
     let Some(statement) = statement else {
         let text = syntax_text(alloc, at)?;

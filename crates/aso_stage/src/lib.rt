@@ -39,6 +39,3 @@ pub use reopening::open_store;
 pub use slots::{key_named, wrong_in_cell};
 pub use store::{Store, recover};
 pub use verdict::Verdict;
-
-#[cfg(test)]
-mod tests;

@@ -33,7 +33,7 @@ fn named_text(alloc: Global, text: &[u8], name: &[u8]) -> Result<Vec<u8>, NoMemo
 
 // The same, where there is a name.
 fn named_if(alloc: Global, text: &[u8], name: Option<&[u8]>) -> Result<Option<Vec<u8>>, NoMemory>
-    ensures { IfOk result (λ out. text_of out ≡ option_map (λ n. text.now ++ shown n) (told name)) }
+    ensures { IfOk result (λ out. text_of out ≡ option_map (λ n. text.now ++ shown n) (told name.entry)) }
 {
     match name {
         Some(name) => Ok(Some(named_text(alloc, text, name)?)),
@@ -75,7 +75,7 @@ fn refused(
     unknown: Option<&[u8]>,
     wrong: Option<&[u8]>,
 ) -> Result<Option<Vec<u8>>, NoMemory>
-    ensures { IfOk result (λ out. text_of out ≡ option_or (text_of database) (option_or (option_map (λ n. codes "203 unknown member: " ++ shown n) (told unknown)) (option_map (λ n. codes "216 wrong dimension: " ++ shown n) (told wrong)))) }
+    ensures { IfOk result (λ out. text_of out ≡ option_or (text_of database) (option_or (option_map (λ n. codes "203 unknown member: " ++ shown n) (told unknown.entry)) (option_map (λ n. codes "216 wrong dimension: " ++ shown n) (told wrong.entry)))) }
 {
     if let Some(text) = database {
         return Ok(Some(text));
@@ -87,7 +87,7 @@ fn refused(
 }
 
 fn bytes_of<'a>(name: Option<&'a Name<'a>>) -> Option<&'a [u8]>
-    ensures { told result ≡ told name }
+    ensures { told result ≡ told name.entry }
 {
     match name {
         Some(name) => Some(name.as_str().as_bytes()),

@@ -1,10 +1,9 @@
-use Rattle.std.proofs.Common.{◌≡◌, ◌∙◌, ◌+◌, ◌≤◌, ℕ, List, length, ap, subst, sym, rules}
+use Rattle.std.proofs.Common.{◌≡◌, ◌∙◌, ◌+◌, ℕ, List, length, ap, subst, sym, rules}
 use Rattle.std.specs.Prelude.{ℤ, FitsSigned}
 use Rattle.std.specs.Int.{w128}
 use Rattle.std.proofs.lemmas.Int.{to_z-of_z}
 use Rattle.std.specs.List.{AllByRecursion}
 use Rattle.aso_catalog.specs.declared.record.LeafCell.{LeafCell}
-use Rattle.aso_catalog.specs.declared.record.Record.{Record}
 use Rattle.aso_catalog.specs.Record.{IsStorable}
 use Rattle.aso_stage.specs.CellSteps.{IsSmall, add_cell}
 use Rattle.aso_stage.specs.Store.{recovered}
