@@ -19,7 +19,7 @@ pub fn judge(
 ) -> Result<Verdict, NoMemory>
     requires store { IsStore store.now }
     requires storable { IsStorable store.now.saved }
-    ensures { IfOk result (IsVerdict store.now at (read statement)) }
+    ensures { IfOk result (IsVerdict store.now at (read statement.entry)) }
 {
     let _ = (store, at, statement);
     Err(NoMemory)
