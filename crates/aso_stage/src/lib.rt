@@ -39,3 +39,6 @@ pub use reopening::open_store;
 pub use slots::{key_named, wrong_in_cell};
 pub use store::{Store, recover};
 pub use verdict::Verdict;
+
+#[cfg(test)]
+mod tests;
