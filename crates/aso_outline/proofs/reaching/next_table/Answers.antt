@@ -5,7 +5,7 @@ use Rattle.aso_tree.proofs.Paths.{map_push}
 use Rattle.aso_outline.specs.Members.{seats}
 use Rattle.aso_outline.specs.Ranks.{reaches}
 use Rattle.aso_outline.proofs.GraphRows.{rows_long}
-use Rattle.aso_outline.proofs.circles.next_table.Goals as goal
+use Rattle.aso_outline.proofs.reaching.next_table.Goals as goal
 
 pub loop-number-preserved : goal.loop-number-preserved
 loop-number-preserved c = let push = map_push (reaches (suc c.args.turn) c.args.draft.now c.args.goal) c.loop-number.number in grind (arith, common_steps, push)

@@ -1,7 +1,7 @@
 use Rattle.std.proofs.Common.{◌∙◌, length}
 use Rattle.aso_outline.proofs.GraphRows.{rows_long}
 use Rattle.aso_outline.proofs.RankTurns.{none_reached}
-use Rattle.aso_outline.proofs.circles.first_table.Goals as goal
+use Rattle.aso_outline.proofs.reaching.first_table.Goals as goal
 
 pub returns : goal.returns
 returns c =

@@ -5,7 +5,7 @@ use Rattle.aso_outline.specs.Ranks.{reaches}
 use Rattle.aso_outline.proofs.GraphRows.{rows_long}
 use Rattle.aso_outline.proofs.RankTurns.{reach_stays}
 use Rattle.aso_outline.proofs.Turns.{table_long}
-use Rattle.aso_outline.proofs.circles.reach_table.Goals as goal
+use Rattle.aso_outline.proofs.reaching.reach_table.Goals as goal
 
 pub returns-then-is_done : goal.returns-then-is_done
 returns-then-is_done c =

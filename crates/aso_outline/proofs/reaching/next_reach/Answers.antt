@@ -4,7 +4,7 @@ use Rattle.aso_outline.specs.declared.row.Standing.{Standing}
 use Rattle.aso_outline.specs.Graph.{reach_in}
 use Rattle.aso_outline.proofs.GraphRows.{row_there}
 use Rattle.aso_outline.proofs.RankTurns.{next_reached}
-use Rattle.aso_outline.proofs.circles.next_reach.Goals as goal
+use Rattle.aso_outline.proofs.reaching.next_reach.Goals as goal
 
 pub returns : goal.returns
 returns c =
