@@ -1,15 +1,17 @@
-ghost use Rattle.std.specs.Prelude.{◌≡◌, ◌+◌, ◌-◌, ◌*◌, ◌<◌, ◌≤◌, ◌^◌, ℕ, Err, Some, length, min, suc, IfOk, IfSome, MatchOption, slice_get, IsErrOf};
+ghost use Rattle.std.specs.Prelude.{◌≡◌, ◌≢◌, ◌+◌, ◌-◌, ◌*◌, ◌<◌, ◌≤◌, ◌^◌, ℕ, Err, Some, length, take, drop, min, suc, IfOk, IfSome, MatchOption, slice_get, IsErrOf};
 ghost use Rattle.aso_disk.specs.Causes.{HasCause};
 ghost use Rattle.aso_runs.specs.Runs.{Entries};
 ghost use Rattle.aso_runs.specs.Cells.{entries_of};
 ghost use Rattle.aso_cellfile.specs.File.{greatest};
-ghost use Rattle.aso_cellfile.specs.Opened.{IsFiled, IsBlockAt, IsSpan, key_or, place_or};
+ghost use Rattle.aso_cellfile.specs.Opened.{IsFiled, IsSpan, HasCells, key_or, place_or};
+ghost use Rattle.aso_cellfile.specs.Ranges.{IsReadAs, IsBad};
 
 use crate::block::decode;
 use crate::entry::Entry;
 use crate::fault::BlockFault;
+use crate::opening::fetch;
 use crate::steps::Steps;
-use aso_disk::Shelf;
+use aso_disk::{Shelf, Trouble};
 use aso_memory::NoMemory;
 use aso_runs::Cell;
 use aso_words::Words;
@@ -52,8 +54,10 @@ impl<S: Shelf, const W: usize> CellFile<S, W> {
 
     /// How many cells it has. Takes no memory.
     pub fn cells(&self) -> u64
-        ensures { result ≡ self.now.count }
+        ensures count { result ≡ self.now.count }
+        ensures cells { (all : Entries) → HasCells W self.now all → result ≡ length all }
     {
+        let _size = self.size;
         u64::from(self.count)
     }
 
@@ -73,9 +77,12 @@ impl<S: Shelf, const W: usize> CellFile<S, W> {
 
     /// What is known of every cell file. It does nothing.
     pub fn keeps(&self)
-        ensures { IsFiled W self.now }
+        ensures filed { IsFiled W self.now }
+        ensures held { self.now.bits ≤ 64 * W }
+        ensures narrow { self.now.bits ≤ 128 }
+        ensures small { self.now.size < 2 ^ 64 }
     {
-        let _count = self.count;
+        let _size = self.size;
     }
 }
 
@@ -105,7 +112,7 @@ pub(crate) fn greatest_key<const W: usize>(bits: u16) -> Words<W>
     key
 }
 
-fn one_below<const W: usize>(key: &Words<W>) -> Words<W>
+pub(crate) fn one_below<const W: usize>(key: &Words<W>) -> Words<W>
     requires some { 1 ≤ W }
     requires few { W ≤ 4 }
     requires above { 0 < key.now }
@@ -179,7 +186,8 @@ impl<S: Shelf, const W: usize> CellFile<S, W> {
         }
     }
 
-    /// The cells of block `n`, each of which is one step. `BadBlock` comes exactly where its bytes aren't its cells.
+    /// The cells of block `n`, each of which is one step: of a file that has cells, those from the 4096 `n`-th on.
+    /// `BadBlock` comes exactly where the block's bytes aren't its cells.
     pub fn block<L: Ledger>(
         &self,
         shelf: &mut S,
@@ -187,8 +195,10 @@ impl<S: Shelf, const W: usize> CellFile<S, W> {
         steps: &mut Steps<L>,
     ) -> Result<Vec<Cell<W>>, BlockFault>
         requires { n < length self.now.entries }
-        ensures found { IfOk result (λ cells. IfSome self.now.told (IsBlockAt self.now n (entries_of cells.items))) }
-        ensures bad { (m : ℕ) → result ≡ Err (BlockFault.BadBlock m) → (m ≡ n) × IfSome self.now.told (λ bytes. (cells : Entries) → IsBlockAt self.now n cells bytes → ⊥) }
+        ensures found { IfOk result (λ cells. IsReadAs self.now n (entries_of cells.items)) }
+        ensures bad { (m : ℕ) → result ≡ Err (BlockFault.BadBlock m) → (m ≡ n) × IsBad self.now n }
+        ensures part { (all : Entries) → HasCells W self.now all → IfOk result (λ cells. entries_of cells.items ≡ take 4096 (drop (4096 * n) all)) }
+        ensures sound { (all : Entries) (m : ℕ) → HasCells W self.now all → result ≢ Err (BlockFault.BadBlock m) }
         ensures count { IfOk result (λ cells. length cells.items ≡ min 4096 (self.now.count - 4096 * n)) }
         ensures steps { IfOk result (λ cells. steps.new ≡ steps.old + length cells.items) }
         ensures least { steps.old ≤ steps.new }
@@ -197,13 +207,14 @@ impl<S: Shelf, const W: usize> CellFile<S, W> {
         ensures same { S.same shelf.old shelf.new }
         ensures cause { HasCause (S.faults shelf.old) (S.faults shelf.new) (IsErrOf result BlockFault.Failed) }
     {
+        let _size = self.size;
         let alloc = self.alloc;
         let span = self.span(n);
-        let Ok(mut bytes) = buffer_of(alloc, (span.ends - span.begins) as usize) else {
-            return Err(BlockFault::NoMemory);
-        };
-        let Ok(()) = shelf.read(&self.file, span.begins, &mut bytes) else {
-            return Err(BlockFault::Failed);
+        let size = span.ends - span.begins;
+        let bytes = match fetch(alloc, shelf, &self.file, span.begins, size) {
+            Ok(bytes) => bytes,
+            Err(Trouble::Failed) => return Err(BlockFault::Failed),
+            Err(Trouble::NoMemory) => return Err(BlockFault::NoMemory),
         };
         match decode(alloc, &bytes, span.count, &span.first, &span.most, steps) {
             Ok(Some(cells)) => Ok(cells),

@@ -8,6 +8,7 @@ mod file;
 mod ids;
 mod law;
 mod opening;
+mod scan;
 mod sealing;
 mod steps;
 mod writer;
@@ -16,7 +17,7 @@ pub use block::decode;
 pub use fault::{BlockFault, OpenFault, WriteFault};
 pub use file::CellFile;
 pub use ids::Ids;
-pub use law::{example, example_without_cells, one_spelling};
+pub use law::{example, example_without_cells, files_and_blocks, one_spelling};
 pub use steps::Steps;
 pub use writer::Writer;
 
