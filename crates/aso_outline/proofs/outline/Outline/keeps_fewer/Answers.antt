@@ -1,4 +1,4 @@
-use Rattle.std.proofs.Common.{◌<◌, ◌≤◌, ℕ, List, arith, subst}
+use Rattle.std.proofs.Common.{◌≤◌, ℕ, List, arith, subst}
 use Rattle.aso_tree.specs.Trees.{class_count}
 use Rattle.aso_outline.specs.Members.{dim_at, parents_of, tree}
 use Rattle.aso_outline.proofs.ClassLemmas.{classes_high}
