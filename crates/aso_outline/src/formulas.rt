@@ -88,7 +88,7 @@ fn is_well_named(draft: &Draft, dim: u32, found: &[Seat]) -> bool
 
 /// The names are those of an atom of a formula in the dimension.
 #[tactic(auto, unfolding(crate::specs::Rules::is_atom))]
-fn is_atom(
+pub fn is_atom(
     draft: &Draft,
     table: &[Seat],
     names: &NameTable,
