@@ -39,8 +39,13 @@ fn put_value(alloc: Global, out: &mut Vec<u8>, value: Val) -> Result<(), NoMemor
     Ok(())
 }
 
-// The line of a row.
-fn put_row(alloc: Global, out: &mut Vec<u8>, name: &[u8], values: &[Val]) -> Result<(), NoMemory>
+/// Appends the line of a row: its name, and its values.
+pub fn put_row(
+    alloc: Global,
+    out: &mut Vec<u8>,
+    name: &[u8],
+    values: &[Val],
+) -> Result<(), NoMemory>
     ensures { OnOk result (out.new.items ≡ out.old.items ++ tabbed (shown name.now) (map value_text values.now)) }
 {
     put_shown(out, name)?;

@@ -192,8 +192,8 @@ pub fn held_by(alloc: Global, outline: &Outline, seat: Seat) -> Result<List<bool
     Ok(List::of(held))
 }
 
-// The member of a dimension under its name.
-fn own_seat(outline: &Outline, dim: u32) -> Seat
+/// The member of a dimension under its name.
+pub fn own_seat(outline: &Outline, dim: u32) -> Seat
     ensures { result ≡ own_seat outline.now dim }
 {
     match outline.draft().dims.items().get(dim as usize) {

@@ -62,8 +62,9 @@ fn held_at<'a>(row: &'a Member, column: &'a Member, dim: u32, own: &'a List<bool
     }
 }
 
-// Every coordinate of a key, from a dimension on, is held. The depth of the calls is the number of dimensions.
-fn passes(row: &Member, column: &Member, dim: u32, owns: &[List<bool>], key: &[u32]) -> bool
+/// Every coordinate of a key, from a dimension on, is held. A dimension of neither member stands at the one whose leaves
+/// are listed for it. The depth of the calls is the number of dimensions.
+pub fn passes(row: &Member, column: &Member, dim: u32, owns: &[List<bool>], key: &[u32]) -> bool
     requires { dim + length owns.now < 2 ^ 32 }
     ensures { result ≡ passes row.now column.now dim owns.now key.now }
 {

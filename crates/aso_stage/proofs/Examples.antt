@@ -1,13 +1,13 @@
 -- The machine, computed on one store and one script.
-use Rattle.std.proofs.Common.{◌≡◌, ℕ, ◌+◌, List, [], ◌∷◌, ◌++◌, refl, codes, pos, Some, None, true}
+use Rattle.std.proofs.Common.{◌≡◌, ℕ, ◌+◌, ◌-◌, ◌^◌, List, [], ◌∷◌, ◌++◌, refl, codes, pos, Some, None}
 use Rattle.std.specs.Fmt.{digits}
 use Rattle.aso_outline.specs.declared.draft.Draft.{Draft}
-use Rattle.aso_outline.specs.Members.{seats, find, leaf_names, holds, parents_of}
+use Rattle.aso_outline.specs.Members.{seats, leaf_names, holds}
 use Rattle.aso_outline.specs.Ranks.{named, rank, needs_itself}
 use Rattle.aso_outline.specs.Rules.{broken, has_counts, is_name, is_atom, key_bits}
-use Rattle.aso_spec.specs.Cells.{Cells, stored}
+use Rattle.aso_spec.specs.Cells.{stored}
 use Rattle.aso_spec.specs.Named.{ordinals_named, key_named}
-use Rattle.aso_spec.specs.Grid.{grid_text, grid_head, end_line, error_line}
+use Rattle.aso_spec.specs.Grid.{grid_text, grid_head, end_line}
 use Rattle.aso_spec.specs.Reading.{read_sheet}
 use Rattle.aso_spec.specs.Drafts.{draft_of}
 use Rattle.aso_spec.specs.Script.{Statement, Add, Select}
@@ -102,3 +102,8 @@ too_great : said (committed first ((0 ∷ 0 ∷ [], pos 999999999999999999) ∷ 
     ≡ Refuses (codes "210 amount range: Jan, NY, 100000000000000.0000")
 unfolding said lines_read read_sheet draft_of seats named ordinals_named key_named leaf_names digits
 too_great = refl
+
+-- at the last layout that comes first
+at_the_end : said (record { text = text; outline = outline; cells = (0 ∷ 0 ∷ [], pos 999999999999999999) ∷ []; commit = 1; layout = 2 ^ 64 - 1 }) 0 (Some (add (codes "Jan") (codes "NY") (codes "0.0001"))) ≡ Refuses (codes "215 sequence end")
+unfolding said lines_read read_sheet draft_of seats named ordinals_named key_named
+at_the_end = refl

@@ -6,4 +6,9 @@ pub mod Covering
 pub mod Reopened
 pub mod Adding
 pub mod Rising
+pub mod Seats
+pub mod FirstLeaves
+pub mod Tuples
+pub mod Changes
+pub mod Kept
 mod Examples

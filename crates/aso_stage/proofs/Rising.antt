@@ -1,8 +1,9 @@
 -- Cells that rise still do where an amount is added to one, and they fit the outline still.
-use Rattle.std.proofs.Common.{◌≡◌, ◌∙◌, ◌⊎◌, inl, inr, ℕ, suc, ◌+◌, ◌<◌, ◌≤◌, ◌^◌, ◌&&◌, Bool, true, false, List, [], ◌∷◌, length, map, eqb, Option, Some, None, refl, sym, ap, subst, arith, true≢false}
+use Rattle.std.proofs.Common.{◌≡◌, ◌∙◌, inl, inr, ℕ, ◌+◌, ◌<◌, ◌^◌, ◌&&◌, Bool, true, false, List, [], ◌∷◌, length, map, eqb, Option, Some, None, refl, sym, ap, subst, arith, true≢false}
 use Rattle.std.specs.Prelude.{ℤ, ◌+ℤ◌, unsigned_abs, nat_lt, if◌then◌else◌}
 use Rattle.std.specs.Option.{option_and_then}
 use Rattle.std.proofs.lemmas.Bool.{ltb-true}
+use Rattle.std.proofs.lemmas.List.{length-map}
 use Rattle.std.specs.declared.cmp.Ordering.{Ordering}
 use Rattle.std.specs.declared.cmp.Ordering.TheVariants.{Less, Equal, Greater}
 use Rattle.std.specs.Ordering.{nat_cmp, ordering_then, MatchOrdering}
@@ -21,7 +22,7 @@ use Rattle.aso_catalog.specs.declared.record.Record.{Record}
 use Rattle.aso_stage.specs.Outlines.{outline_of}
 use Rattle.aso_stage.proofs.Outlined.{stands_by}
 use Rattle.aso_stage.specs.Store.{State, are_leaves, committed, entry, fits_outline, is_cell_of, leaf_counts, recovered, state_with}
-use Rattle.aso_stage.specs.CellSteps.{IsSmall, add_cell, cell_at, sum_in}
+use Rattle.aso_stage.specs.CellSteps.{IsSmall, add_cell, sum_in}
 
 below_by : (x y : ℕ) (xs ys : List ℕ) (o : Ordering) → MatchOrdering o (x < y) (x ≡ y) (y < x) → (slice_cmp nat_cmp xs ys ≡ Less → IsBelow xs ys) → ordering_then o (slice_cmp nat_cmp xs ys) ≡ Less → IsBelow (x ∷ xs) (y ∷ ys)
 below_by x y xs ys Less m rest e = inl m
@@ -56,7 +57,7 @@ module _ (dimensions : ℕ) (key : Key) (z : ℤ) (size : length key ≡ dimensi
   still_rising before [] rising above = (size, above, tt)
   still_rising before (c ∷ cs) rising above = rising_by before c cs (key_order key c.leaves) refl rising above (λ below. still_rising (Some c.leaves) cs rising.2 below)
 
-and_true : (a b : Bool) → a ≡ true → b ≡ true → (a && b) ≡ true
+pub and_true : (a b : Bool) → a ≡ true → b ≡ true → (a && b) ≡ true
 and_true true b ha hb = hb
 and_true false b ha hb = ha
 
@@ -145,22 +146,16 @@ leaves_count [] (k ∷ ks) h = absurd (true≢false (sym h))
 leaves_count (c ∷ cs) [] h = absurd (true≢false (sym h))
 leaves_count (c ∷ cs) (k ∷ ks) h = let rest = leaves_count cs ks (both (nat_lt k c) (are_leaves cs ks) h).1 in omega (arith, rest)
 
-longer_by : (key : Key) (z : ℤ) (c : LeafCell) (cs : List LeafCell) (o : Ordering) → key_order key c.leaves ≡ o → length (add_cell key z cs) ≤ length cs + 1 → length (add_cell key z (c ∷ cs)) ≤ length (c ∷ cs) + 1
-longer_by key z c cs Less e rest = rw e (omega arith)
-longer_by key z c cs Equal e rest = rw e (omega arith)
-longer_by key z c cs Greater e rest = rw e (omega (arith, rest))
+pub added_length : (key : Key) (z : ℤ) (cells : List LeafCell) → length (add_cell key z cells) ≡ length (add_at key z (map entry cells))
+added_length key z cells = sym (length-map (add_cell key z cells) entry) ∙ ap length (entries_added key z cells)
 
-pub one_longer : (key : Key) (z : ℤ) (cells : List LeafCell) → length (add_cell key z cells) ≤ length cells + 1
-one_longer key z [] = omega arith
-one_longer key z (c ∷ cs) = longer_by key z c cs (key_order key c.leaves) refl (one_longer key z cs)
-
-pub next_storable : (r : Record) (o : Draft) (key : Key) (z : ℤ) → recovered r ≡ Some (state_with r o) → are_leaves (leaf_counts o) key ≡ true → IsStorable r → length r.cells + 1 < 2 ^ 32 → IsStorable (added_record r key z)
+pub next_storable : (r : Record) (o : Draft) (key : Key) (z : ℤ) → recovered r ≡ Some (state_with r o) → are_leaves (leaf_counts o) key ≡ true → IsStorable r → length (add_at key z (map entry r.cells)) < 2 ^ 32 → IsStorable (added_record r key z)
 next_storable r o key z is leaves s few =
     let parts = parts_of r o is in
     let dims : r.dimensions ≡ length o.dims = (Decides-eqb r.dimensions (length o.dims)).0 (both (eqb r.dimensions (length o.dims)) (list_all (λ c. is_cell_of (leaf_counts o) (entry c)) r.cells) parts.1).0 in
     let counted : length (leaf_counts o) ≡ length o.dims = length-map-range_with_len (λ d. length (data_leaves (dim_at o d))) 0 (length o.dims) in
     let size : length key ≡ r.dimensions = leaves_count (leaf_counts o) key leaves ∙ counted ∙ sym dims in
-    let long = one_longer key z r.cells in
+    let long = added_length key z r.cells in
     record {
       older = omega (arith, s.older);
       short = s.short;

@@ -1,6 +1,6 @@
 -- The cells of a record where an amount is added to one.
-use Rattle.std.specs.Prelude.{◌≡◌, ℕ, ◌<◌, ◌^◌, ℤ, ◌+ℤ◌, unsigned_abs, Bool, false, List, [], ◌∷◌}
-use Rattle.std.specs.Ordering.{is_gt, match_ordering}
+use Rattle.std.specs.Prelude.{◌≡◌, ◌<◌, ◌^◌, ℤ, ◌+ℤ◌, unsigned_abs, Bool, false, List, [], ◌∷◌}
+use Rattle.std.specs.Ordering.{is_eq, is_gt, match_ordering}
 use Rattle.aso_spec.specs.Cells.{Key, key_order}
 use Rattle.aso_catalog.specs.declared.record.LeafCell.{LeafCell}
 
@@ -10,6 +10,11 @@ cell_at key z = record { leaves = key; amount = z }
 -- a cell that stands before the key
 abbrev pub is_before : Key → LeafCell → Bool
 is_before key cell = is_gt (key_order key cell.leaves)
+
+-- the first of these cells is the key's
+abbrev pub is_first : Key → List LeafCell → Bool
+is_first key [] = false
+is_first key (c ∷ cs) = is_eq (key_order key c.leaves)
 
 -- the cell becomes its old amount, 0 where it is missing, plus the amount
 abbrev pub add_cell : Key → ℤ → List LeafCell → List LeafCell

@@ -9,3 +9,7 @@ pub mod Stores
 pub mod Opened
 pub mod Names
 pub mod CellSteps
+pub mod Texts
+pub mod Slots
+pub mod Grids
+pub mod Verdicts

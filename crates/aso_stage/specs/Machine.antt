@@ -1,5 +1,5 @@
 -- The machine that a store is: what a statement comes to, on a state.
-use Rattle.std.specs.Prelude.{◌≡◌, ◌⊎◌, ℕ, ◌+◌, ◌-◌, ◌^◌, Bool, true, false, not, ◌&&◌, List, [], ◌∷◌, ◌++◌, map, length, Option, Some, None, is_none, is_some, ℤ, pos, ◌+ℤ◌, unsigned_abs, nat_lt, nat_le, ◌==◌, if◌then◌else◌, slice_index, slice_index_or, unwrap_or, codes}
+use Rattle.std.specs.Prelude.{◌≡◌, ◌⊎◌, ℕ, ◌+◌, ◌-◌, ◌^◌, Bool, not, ◌&&◌, List, [], ◌∷◌, ◌++◌, map, length, Option, Some, None, is_none, ℤ, pos, unsigned_abs, nat_lt, nat_le, ◌==◌, if◌then◌else◌, slice_index, slice_index_or, unwrap_or, codes}
 use Rattle.std.specs.Option.{option_map, option_or}
 use Rattle.std.specs.Result.{result_unwrap_or}
 use Rattle.std.specs.List.{find, list_any}
@@ -139,9 +139,13 @@ refusal_of o (Add app db names amount) = refusal o app db names (wrong_in_cell o
 refusal_of o (Select columns rows app db slicer) =
     refusal o app db (columns ++ listed rows ++ listed slicer) (wrong_in_query o columns (listed rows) (listed slicer))
 
+-- behind the last layout there is none that a change could make
+abbrev pub unless_ended : State → Said → Said
+unless_ended s said = if s.layout == 2 ^ 64 - 1 then Refuses (codes "215 sequence end") else said
+
 -- what a statement that isn't refused so comes to
 abbrev pub answered : State → Statement → Said
-answered s (Add app db names amount) = added_to s.outline s.cells (key_named s.outline names) (result_unwrap_or (amount_of amount) (pos 0))
+answered s (Add app db names amount) = unless_ended s (added_to s.outline s.cells (key_named s.outline names) (result_unwrap_or (amount_of amount) (pos 0)))
 answered s (Select columns rows app db slicer) = query_grid s.outline s.cells columns rows (listed slicer)
 
 abbrev pub unless_refused : Option (List ℕ) → Said → Said
@@ -152,16 +156,6 @@ unless_refused (Some text) said = Refuses text
 unfoldable pub said : State → ℕ → Option Statement → Said
 said s at None = Refuses (codes "201 syntax: byte " ++ decimal at)
 said s at (Some statement) = unless_refused (refusal_of s.outline statement) (answered s statement)
-
--- the statement would change cells
-abbrev pub is_change : Statement → Bool
-is_change (Add app db names amount) = true
-is_change (Select columns rows app db slicer) = false
-
--- A change that isn't refused for its names needs the next layout.
-abbrev pub needs_layout : State → Option Statement → Bool
-needs_layout s None = false
-needs_layout s (Some statement) = is_change statement && is_none (refusal_of s.outline statement)
 
 -- ---- replies and next states
 
@@ -200,8 +194,7 @@ Fails _ h i reply after = ⊥
 -- meanwhile. Only an accepted change, and a doubt, change anything.
 abbrev pub Outcome : Type 0 → Held → ℕ → ℕ → Option Statement → List ℕ → Status → Held → Type 0
 Outcome failed h i at statement reply Done after = Accepts (said h.state at statement) h i reply after
-Outcome failed h i at statement reply Refused after =
-    (Declines (said h.state at statement) i reply ⊎ ((h.state.layout ≡ 2 ^ 64 - 1) × (needs_layout h.state statement ≡ true) × (reply ≡ error_line i (codes "215 sequence end")))) × (after ≡ h)
+Outcome failed h i at statement reply Refused after = Declines (said h.state at statement) i reply × (after ≡ h)
 Outcome failed h i at statement reply Disk after = failed × Fails (said h.state at statement) h i reply after
 Outcome failed h i at statement reply NoMemory after = (reply ≡ error_line i (codes "401 no memory")) × (after ≡ h)
 Outcome failed h i at statement reply _ after = ⊥

@@ -1,8 +1,9 @@
 // What a commit of an amount publishes.
-ghost use Rattle.std.specs.Prelude.{◌≡◌, ◌+◌, ◌-◌, ◌≤◌, ◌<◌, ◌^◌, Some, true, length, nat_lt, unsigned_abs, IfOk};
+ghost use Rattle.std.specs.Prelude.{◌≡◌, ◌+◌, ◌-◌, ◌≤◌, ◌<◌, ◌^◌, Some, true, length, map, nat_lt, unsigned_abs, IfOk};
 ghost use Rattle.aso_catalog.specs.Record.{IsRecord, IsStorable};
+ghost use Rattle.aso_spec.specs.Cells.{add_at};
 ghost use Rattle.aso_stage.specs.CellSteps.{sum_in};
-ghost use Rattle.aso_stage.specs.Store.{are_leaves, leaf_counts, recovered, state_with};
+ghost use Rattle.aso_stage.specs.Store.{are_leaves, entry, leaf_counts, recovered, state_with};
 ghost use Rattle.aso_stage.specs.Stores.{IsStore, added_state};
 
 use crate::bodies::body_of;
@@ -25,7 +26,7 @@ pub fn next_body(
     requires leaves { are_leaves (leaf_counts store.now.outline) key.now ≡ true }
     requires amount { unsigned_abs amount < 10 ^ 18 }
     requires sum { nat_lt (unsigned_abs (sum_in key.now amount store.now.saved.cells)) (10 ^ 18) ≡ true }
-    requires few { length store.now.saved.cells < 1000 }
+    requires few { length (add_at key.now amount (map entry store.now.saved.cells)) ≤ 1000 }
     ensures spelled { IfOk result (λ p. IsRecord p.0 p.1.items) }
     ensures short { IfOk result (λ p. length p.1.items ≤ 131067) }
     ensures layout { IfOk result (λ p. p.0.layout ≡ store.now.saved.layout + 1) }

@@ -1,7 +1,7 @@
 // The cells of a record, and what becomes of them where an amount is added to one.
-ghost use Rattle.std.specs.Prelude.{◌≡◌, ◌≤◌, ◌<◌, ◌^◌, ◌++◌, ◌∷◌, [], length, unsigned_abs, IfOk, OnOk};
+ghost use Rattle.std.specs.Prelude.{◌≡◌, ◌≤◌, ◌<◌, ◌^◌, ◌++◌, ◌∷◌, [], ℤ, length, unsigned_abs, IfOk, OnOk};
 ghost use Rattle.std.specs.List.{AllByRecursion, prefix_len};
-ghost use Rattle.aso_stage.specs.CellSteps.{IsPlace, IsSmall, IsSmallFirst, add_cell, cell_at, is_before, sum_in};
+ghost use Rattle.aso_stage.specs.CellSteps.{IsPlace, IsSmall, IsSmallFirst, add_cell, cell_at, is_before, is_first, sum_in};
 
 use aso_catalog::LeafCell;
 use aso_num::{List, NoMemory};
@@ -99,6 +99,30 @@ pub fn sum_in(cells: &[LeafCell], key: &[u32], amount: i128) -> i128
 {
     let (_, rest) = cells.split_at(place_of(cells, key));
     sum_here(rest, key, amount)
+}
+
+// The first of some cells is the key's.
+fn is_here(rest: &[LeafCell], key: &[u32]) -> bool
+    ensures { result ≡ is_first key.now rest.now }
+{
+    let [first, ..] = rest else {
+        return false;
+    };
+    key.cmp(first.leaves.items()) == Ordering::Equal
+}
+
+/// How many cells there are once an amount is added to one.
+#[tactic(auto, using(crate::proofs::Changes::count_at_place))]
+pub fn added_count(cells: &[LeafCell], key: &[u32]) -> usize
+    requires { length cells.now < 2 ^ 32 }
+    ensures { (z : ℤ) → length (add_cell key.now z cells.now) ≡ result }
+{
+    let (_, rest) = cells.split_at(place_of(cells, key));
+    if is_here(rest, key) {
+        cells.len()
+    } else {
+        cells.len() + 1
+    }
 }
 
 /// The cells once an amount is added to one.

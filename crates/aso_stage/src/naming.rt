@@ -1,7 +1,7 @@
 // The names of a statement: which of them is unknown, or wrong.
-ghost use Rattle.std.specs.Prelude.{◌≡◌, [], IfOk, not, slice_get};
+ghost use Rattle.std.specs.Prelude.{◌≡◌, [], IfOk, not};
 ghost use Rattle.std.specs.List.{find};
-ghost use Rattle.aso_outline.specs.Members.{is_data_leaf, seats};
+ghost use Rattle.aso_outline.specs.Members.{is_data_leaf};
 ghost use Rattle.aso_outline.specs.Ranks.{named};
 ghost use Rattle.aso_spec.specs.Named.{names_one};
 ghost use Rattle.aso_stage.specs.Machine.{dim_named, has, is_in, is_unknown, misplaced, wrong_in_axis, wrong_in_slicer};
@@ -13,52 +13,42 @@ use aso_script::Name;
 use aso_sheet::{dim_of, is_of_dim};
 use std::alloc::Global;
 
-// What a member number stands for.
-fn seat_at(table: &[Seat], number: u32) -> Option<Seat>
-    ensures { result ≡ slice_get table.now number }
-{
-    table.get(number as usize).copied()
-}
-
-/// The member of a name. The table has what each member number stands for.
-pub fn seat_of_text(outline: &Outline, table: &[Seat], name: &str) -> Option<Seat>
-    requires { table.now ≡ seats outline.now }
+/// The member of a name.
+#[tactic(auto, using(aso_outline::proofs::FoundNames::number_within))]
+pub fn seat_of_text(outline: &Outline, name: &str) -> Option<Seat>
     ensures { result ≡ named outline.now name.now }
 {
     match outline.find(name) {
-        Some(number) => seat_at(table, number),
+        Some(number) => Some(outline.seat(number)),
         None => None,
     }
 }
 
-// The dimension of a name's member; 0 where it names none.
-fn dim_named(outline: &Outline, table: &[Seat], name: &Name) -> u32
-    requires { table.now ≡ seats outline.now }
+/// The dimension of a name's member; 0 where it names none.
+pub fn dim_named(outline: &Outline, name: &Name) -> u32
     ensures { result ≡ dim_named outline.now name.now }
 {
-    match seat_of_text(outline, table, name.as_str()) {
+    match seat_of_text(outline, name.as_str()) {
         Some(seat) => dim_of(seat),
         None => 0,
     }
 }
 
 // The name is a data leaf's.
-fn is_leaf_name(outline: &Outline, table: &[Seat], name: &Name) -> bool
-    requires { table.now ≡ seats outline.now }
+fn is_leaf_name(outline: &Outline, name: &Name) -> bool
     ensures { result ≡ names_one (is_data_leaf outline.now) outline.now name.now }
 {
-    match seat_of_text(outline, table, name.as_str()) {
+    match seat_of_text(outline, name.as_str()) {
         Some(seat) => outline.is_data_leaf(seat),
         None => false,
     }
 }
 
 // The name is that of a member of the base dimension.
-fn is_in(outline: &Outline, table: &[Seat], dim: u32, name: &Name) -> bool
-    requires { table.now ≡ seats outline.now }
+fn is_in(outline: &Outline, dim: u32, name: &Name) -> bool
     ensures { result ≡ is_in outline.now dim name.now }
 {
-    match seat_of_text(outline, table, name.as_str()) {
+    match seat_of_text(outline, name.as_str()) {
         Some(seat) => is_of_dim(dim, seat),
         None => false,
     }
@@ -71,16 +61,11 @@ fn has(dims: &[u32], dim: u32) -> bool
 }
 
 /// The first name that is unknown.
-pub fn first_unknown<'a>(
-    outline: &Outline,
-    table: &[Seat],
-    names: &'a [Name<'a>],
-) -> Option<&'a Name<'a>>
-    requires { table.now ≡ seats outline.now }
+pub fn first_unknown<'a>(outline: &Outline, names: &'a [Name<'a>]) -> Option<&'a Name<'a>>
     ensures { told result ≡ find (is_unknown outline.now) names.now }
 {
     for name in names {
-        if seat_of_text(outline, table, name.as_str()).is_none() {
+        if seat_of_text(outline, name.as_str()).is_none() {
             return Some(name);
         }
     }
@@ -91,16 +76,14 @@ pub fn first_unknown<'a>(
 pub fn misplaced<'a>(
     alloc: Global,
     outline: &Outline,
-    table: &[Seat],
     names: &'a [Name<'a>],
 ) -> Result<Option<&'a Name<'a>>, NoMemory>
-    requires { table.now ≡ seats outline.now }
     ensures { IfOk result (λ found. told found ≡ misplaced outline.now [] names.now) }
 {
     let mut taken = Vec::new(alloc);
     for name in names {
-        let dim = dim_named(outline, table, name);
-        if is_leaf_name(outline, table, name) && !has(&taken, dim) {
+        let dim = dim_named(outline, name);
+        if is_leaf_name(outline, name) && !has(&taken, dim) {
             taken.push(dim)?;
         } else {
             return Ok(Some(name));
@@ -110,17 +93,11 @@ pub fn misplaced<'a>(
 }
 
 // The first name that isn't that of a member of the dimension.
-fn first_apart<'a>(
-    outline: &Outline,
-    table: &[Seat],
-    dim: u32,
-    names: &'a [Name<'a>],
-) -> Option<&'a Name<'a>>
-    requires { table.now ≡ seats outline.now }
+fn first_apart<'a>(outline: &Outline, dim: u32, names: &'a [Name<'a>]) -> Option<&'a Name<'a>>
     ensures { told result ≡ find (λ m. not (is_in outline.now dim m)) names.now }
 {
     for name in names {
-        if !is_in(outline, table, dim, name) {
+        if !is_in(outline, dim, name) {
             return Some(name);
         }
     }
@@ -130,21 +107,19 @@ fn first_apart<'a>(
 /// The first of an axis's names that isn't of its first one's dimension; the first one itself where that is taken.
 pub fn wrong_in_axis<'a>(
     outline: &Outline,
-    table: &[Seat],
     taken: &[u32],
     names: &'a [Name<'a>],
 ) -> Option<&'a Name<'a>>
-    requires { table.now ≡ seats outline.now }
     ensures { told result ≡ wrong_in_axis outline.now taken.now names.now }
 {
     let [first, ..] = names else {
         return None;
     };
-    let dim = dim_named(outline, table, first);
+    let dim = dim_named(outline, first);
     if has(taken, dim) {
         Some(first)
     } else {
-        first_apart(outline, table, dim, names)
+        first_apart(outline, dim, names)
     }
 }
 
@@ -152,16 +127,14 @@ pub fn wrong_in_axis<'a>(
 /// of the names before it.
 pub fn wrong_in_slicer<'a>(
     outline: &Outline,
-    table: &[Seat],
     taken: &mut Vec<u32>,
     names: &'a [Name<'a>],
 ) -> Result<Option<&'a Name<'a>>, NoMemory>
-    requires { table.now ≡ seats outline.now }
     ensures { IfOk result (λ found. told found ≡ wrong_in_slicer outline.now taken.old.items names.now) }
 {
     for name in names {
-        let dim = dim_named(outline, table, name);
-        if is_in(outline, table, dim, name) && !has(taken, dim) {
+        let dim = dim_named(outline, name);
+        if is_in(outline, dim, name) && !has(taken, dim) {
             taken.push(dim)?;
         } else {
             return Ok(Some(name));

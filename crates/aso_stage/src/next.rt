@@ -1,5 +1,5 @@
 // The record of a store once a cell is changed.
-ghost use Rattle.std.specs.Prelude.{◌≡◌, ◌+◌, ◌-◌, ◌<◌, ◌≤◌, ◌^◌, Some, true, length, map, nat_lt, unsigned_abs, IfOk};
+ghost use Rattle.std.specs.Prelude.{◌≡◌, ◌+◌, ◌-◌, ◌<◌, ◌^◌, Some, true, length, map, nat_lt, unsigned_abs, IfOk};
 ghost use Rattle.aso_catalog.specs.Record.{IsStorable};
 ghost use Rattle.aso_spec.specs.Cells.{add_at};
 ghost use Rattle.aso_stage.specs.CellSteps.{sum_in};
@@ -26,12 +26,12 @@ pub fn next_record(
     requires amount { unsigned_abs amount < 10 ^ 18 }
     requires sum { nat_lt (unsigned_abs (sum_in key.now amount store.now.saved.cells)) (10 ^ 18) ≡ true }
     requires storable { IsStorable store.now.saved }
-    requires few { length store.now.saved.cells + 1 < 2 ^ 32 }
+    requires few { length (add_at key.now amount (map entry store.now.saved.cells)) < 2 ^ 32 }
     ensures stands { IfOk result (λ r. recovered r ≡ Some (committed (state_of store.now) (add_at key.now amount (map entry store.now.saved.cells)))) }
     ensures storable { IfOk result IsStorable }
     ensures layout { IfOk result (λ r. r.layout ≡ store.now.saved.layout + 1) }
     ensures outline { IfOk result (λ r. r.outline ≡ store.now.saved.outline) }
-    ensures cells { IfOk result (λ r. length r.cells ≤ length store.now.saved.cells + 1) }
+    ensures cells { IfOk result (λ r. length r.cells ≡ length (add_at key.now amount (map entry store.now.saved.cells))) }
 {
     let saved = &store.saved;
     let cells = add_cell(alloc, saved.cells.items(), key, amount)?;

@@ -1,7 +1,11 @@
-use Rattle.std.proofs.Common.{◌≡◌, ◌∙◌, ◌≤◌, ◌+◌, ◌*◌, ℕ, Some, length, ap, sym, arith, rules}
+use Rattle.std.proofs.Common.{◌≡◌, ◌∙◌, ◌≤◌, ◌*◌, Some, length, map, ap, sym, arith, rules}
+use Rattle.std.specs.Prelude.{ℤ, FitsSigned}
+use Rattle.std.specs.Int.{w128}
+use Rattle.std.proofs.lemmas.Int.{to_z-of_z}
 use Rattle.std.proofs.Math.Nat.{mul-le-mul_right}
-use Rattle.aso_catalog.specs.Record.{longest, longest_cell}
-use Rattle.aso_stage.specs.Store.{State, recovered, state_with}
+use Rattle.aso_spec.specs.Cells.{add_at}
+use Rattle.aso_catalog.specs.Record.{longest_cell}
+use Rattle.aso_stage.specs.Store.{State, entry, recovered}
 use Rattle.aso_stage.specs.Stores.{added_state}
 use Rattle.aso_stage.proofs.Outlined.{text_short}
 use Rattle.aso_stage.proofs.Rising.{parts_of, state_is}
@@ -14,7 +18,9 @@ returns-clause-short c =
     let r = c.args.store.now.saved in
     let long = ap length made.outline in
     let text = text_short r.outline c.args.store.now.outline (parts_of r c.args.store.now.outline c.requires.store).0 in
-    let few : length next.cells ≤ 1000 = omega (arith, made.cells, c.requires.few) in
+    let fits : FitsSigned w128 c.args.amount = search rules in
+    let same = ap (λ (x : ℤ). length (add_at c.args.key.now x (map entry r.cells))) (to_z-of_z w128 c.args.amount fits) in
+    let few : length next.cells ≤ 1000 = omega (arith, made.cells, same, c.requires.few) in
     let cells : length next.cells * longest_cell next.dimensions ≤ 1000 * longest_cell next.dimensions = mul-le-mul_right (longest_cell next.dimensions) few in
     omega (arith, c.in_ok-body.ensures.short, long, text, cells, made.storable.most)
 

@@ -1,14 +1,13 @@
-use Rattle.std.proofs.Common.{◌≡◌, ◌∙◌, ◌+◌, ◌≤◌, ℕ, List, length, ap, subst, sym, rules}
+use Rattle.std.proofs.Common.{◌≡◌, ◌∙◌, ◌+◌, ℕ, List, length, ap, subst, sym, rules}
 use Rattle.std.specs.Prelude.{ℤ, FitsSigned}
 use Rattle.std.specs.Int.{w128}
 use Rattle.std.proofs.lemmas.Int.{to_z-of_z}
 use Rattle.std.specs.List.{AllByRecursion}
 use Rattle.aso_catalog.specs.declared.record.LeafCell.{LeafCell}
-use Rattle.aso_catalog.specs.declared.record.Record.{Record}
 use Rattle.aso_catalog.specs.Record.{IsStorable}
 use Rattle.aso_stage.specs.CellSteps.{IsSmall, add_cell}
 use Rattle.aso_stage.specs.Store.{recovered}
-use Rattle.aso_stage.proofs.Rising.{cells_small, next_stands, next_storable, one_longer}
+use Rattle.aso_stage.proofs.Rising.{added_length, cells_small, next_stands, next_storable}
 use Rattle.aso_stage.proofs.next.next_record.Goals as goal
 
 pub add_cell-requires-clause-small : goal.add_cell-requires-clause-small
@@ -40,4 +39,4 @@ returns-clause-cells c =
     let r = c.args.store.now.saved in
     let fits : FitsSigned w128 c.args.amount = search rules in
     let same_cells : c.of-2.result ≡ add_cell c.args.key.now c.args.amount r.cells = c.of-2.ensures ∙ c.in_ok-cells.ensures ∙ ap (λ (x : ℤ). add_cell c.args.key.now x c.items.result.now) (to_z-of_z w128 c.args.amount fits) ∙ ap (add_cell c.args.key.now c.args.amount) c.items.ensures in
-    subst (λ (cs : List LeafCell). length cs ≤ length r.cells + 1) (sym same_cells) (one_longer c.args.key.now c.args.amount r.cells)
+    ap length same_cells ∙ added_length c.args.key.now c.args.amount r.cells
