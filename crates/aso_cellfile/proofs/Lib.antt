@@ -8,4 +8,7 @@ pub mod Spans
 pub mod Unique
 pub mod Openings
 pub mod Parts
+pub mod Wholes
+pub mod Rising
+pub mod BlockReads
 pub mod Scans
