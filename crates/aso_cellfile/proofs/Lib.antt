@@ -7,3 +7,5 @@ pub mod Sealed
 pub mod Spans
 pub mod Unique
 pub mod Openings
+pub mod Parts
+pub mod Scans
