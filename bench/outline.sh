@@ -1,7 +1,7 @@
 #!/bin/sh
-# Times `Outline::verify` of the proved build over drafts of a million members: a flat one, a deep one, and one with 10,000 formulas
-# in chains of the greatest rank. The proved program is made in a folder of its own, which is removed at the end; from nothing its
-# proof takes many minutes. Wants the kit's `rt`.
+# Times `Outline::verify` of the proved build over drafts of a million members: a flat one, a deep one, one with 10,000 formulas in
+# chains of the greatest rank, and one that is refused, whose first half leads to the circles of its second half. The proved program
+# is made in a folder of its own, which is removed at the end; from nothing its proof takes many minutes. Wants the kit's `rt`.
 set -eu
 top=$(cd "$(dirname "$0")/.." && pwd)
 turns=${1:-5}
@@ -26,17 +26,21 @@ cat >"$work/crates/times/src/main.rt" <<'EOP'
 use anyhow::Result;
 use aso_memory::NoMemory;
 use aso_num::{List, Text};
-use aso_outline::{Aggregate, Draft, DraftDim, DraftHier, DraftMember, Expr, Op, Outline};
+use aso_outline::{
+    Aggregate, Draft, DraftDim, DraftHier, DraftMember, Expr, Op, Outline, OutlineFault,
+};
 use std::alloc::Global;
 use std::time::Instant;
 
-/// How the members of the great dimension stand: all under the root, each 31st under the root and each other one under the member
-/// before it, or as formulas of which each 63rd is a number and each other names the member before it.
+/// How the members of the great dimension stand: all under the root; each 31st under the root and each other one under the member
+/// before it; as formulas of which each 63rd is a number and each other names the member before it; or as formulas of which the first
+/// half name the next, and the others are pairs that name each other.
 #[derive(Clone, Copy, Debug, PartialEq, Eq)]
 enum Shape {
     Flat,
     Deep,
     Chained,
+    Circled,
 }
 
 fn member(alloc: Global, name: String, parent: u32, formula: Option<Expr>) -> DraftMember {
@@ -52,14 +56,41 @@ fn member(alloc: Global, name: String, parent: u32, formula: Option<Expr>) -> Dr
     }
 }
 
-/// The formula of a member: the member before it, or at the head of a chain a number.
-fn formula(alloc: Global, number: u32) -> Result<Expr, NoMemory> {
-    if number % 63 == 1 || number == 0 {
-        return Ok(Expr::Num(10000));
-    }
+/// A formula that names a member of the great dimension.
+fn named(alloc: Global, number: u32) -> Result<Expr, NoMemory> {
     let mut names = Vec::new(alloc);
-    names.push(Text::of(format!(in alloc; "m{}", number - 1)?))?;
+    names.push(Text::of(format!(in alloc; "m{number}")?))?;
     Ok(Expr::Cell(List::of(names)))
+}
+
+/// The member before it, or at the head of a chain a number.
+fn chained(alloc: Global, number: u32) -> Result<Option<Expr>, NoMemory> {
+    if number > 10_000 {
+        return Ok(None);
+    }
+    if number % 63 == 1 || number == 0 {
+        return Ok(Some(Expr::Num(10000)));
+    }
+    Ok(Some(named(alloc, number - 1)?))
+}
+
+/// The next member, or the other of a pair. The last two have no formula.
+fn circled(alloc: Global, number: u32, count: u32) -> Result<Option<Expr>, NoMemory> {
+    if count.saturating_sub(number) < 3 {
+        return Ok(None);
+    }
+    if number < count / 2 || number % 2 == 0 {
+        return Ok(Some(named(alloc, number.saturating_add(1))?));
+    }
+    Ok(Some(named(alloc, number.saturating_sub(1))?))
+}
+
+fn formula(alloc: Global, shape: Shape, number: u32, count: u32) -> Result<Option<Expr>, NoMemory> {
+    match shape {
+        Shape::Chained => chained(alloc, number),
+        Shape::Circled => circled(alloc, number, count),
+        _ => Ok(None),
+    }
 }
 
 fn parent(shape: Shape, number: u32) -> u32 {
@@ -75,16 +106,12 @@ fn dim(alloc: Global, name: &str, shape: Shape, count: u32) -> Result<DraftDim, 
     let mut members = Vec::new(alloc);
     members.push(member(alloc, String::from_str(alloc, name)?, u32::MAX, None))?;
     for number in 1..count {
-        let formula = if shape == Shape::Chained && number <= 10_000 {
-            Some(formula(alloc, number)?)
-        } else {
-            None
-        };
+        let formula = formula(alloc, shape, number, count)?;
         let name = format!(in alloc; "{name}{number}")?;
         members.push(member(alloc, name, parent(shape, number), formula))?;
     }
     let tree = DraftHier {
-        dynamic: shape == Shape::Chained,
+        dynamic: shape == Shape::Chained || shape == Shape::Circled,
         members: List::of(members),
     };
     Ok(DraftDim {
@@ -127,17 +154,30 @@ fn time(rt: &HostRuntime, name: &str, shape: Shape, count: u32) -> Result<()> {
     Ok(())
 }
 
+fn time_refusal(rt: &HostRuntime, name: &str, shape: Shape, count: u32) -> Result<()> {
+    let alloc = rt.alloc();
+    let draft = draft(alloc, shape, count)?;
+    let start = Instant::now(rt)?;
+    let answer = Outline::verify(alloc, draft);
+    let taken = start.elapsed(rt)?.as_millis();
+    if let Err(OutlineFault::Refused { rule, member }) = answer {
+        println!(rt; "{name} {} {rule}:{member} {taken}", count.saturating_add(13))?;
+    }
+    Ok(())
+}
+
 fn main(rt: HostRuntime) -> Result<()> {
     time(&rt, "flat", Shape::Flat, 1_000_000)?;
     time(&rt, "deep", Shape::Deep, 1_000_000)?;
-    time(&rt, "chained", Shape::Chained, 1_000_000)
+    time(&rt, "chained", Shape::Chained, 1_000_000)?;
+    time_refusal(&rt, "circled", Shape::Circled, 1_000_000)
 }
 EOP
 (cd "$work/crates/times" && rt run) >"$work/build.log" 2>&1 || { tail -20 "$work/build.log" >&2; exit 1; }
 for turn in $(seq "$turns"); do
     "$work/crates/times/out/times"
 done >"$work/times.txt"
-echo "draft members greatest_rank milliseconds (the median)"
-for name in flat deep chained; do
+echo "draft members greatest_rank (or broken rule:member) milliseconds (the median)"
+for name in flat deep chained circled; do
     grep "^$name " "$work/times.txt" | sort -k4n | sed -n "$(((turns + 1) / 2))p"
 done

@@ -6,3 +6,4 @@ pub mod Views
 pub mod Fields
 pub mod Opened
 pub mod Since
+pub mod Begun

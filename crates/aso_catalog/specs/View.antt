@@ -1,8 +1,9 @@
 -- A catalog as the layers above see it. What it says of records is said for each device: of one that tells its bytes it
 -- is what a read gives, and of one that tells none it may be anything.
-use Rattle.std.specs.Prelude.{ℕ, ◌-◌, ◌<◌, ◌≤◌, ◌≡◌, true, false, Bool, List, [], length, slice_index_or as get_or, Option, Some, None, IsSome, MatchOption, is_some}
+use Rattle.std.specs.Prelude.{ℕ, ◌+◌, ◌-◌, ◌*◌, ◌<◌, ◌≤◌, ◌≡◌, true, false, Bool, List, [], ◌∷◌, ◌++◌, Contains, length, slice_index_or as get_or, Option, Some, None, IsSome, MatchOption, is_some, if◌then◌else◌}
+use Rattle.std.specs.Int.{to_be_bytes, w32}
 use Rattle.std.specs.Option.{ForSome}
-use Rattle.aso_disk.specs.Slots.{LeavesOnly}
+use Rattle.aso_disk.specs.Slots.{LeavesOnly, Write}
 use Rattle.aso_catalog.specs.Image.{area, body_of, open_body, chosen, layout_of, BeforeOrDoubt, IsSound, OpensWith}
 use Rattle.aso_catalog.specs.Record.{IsRecord}
 use Rattle.aso_catalog.specs.declared.record.Record.{Record}
@@ -57,6 +58,36 @@ IsInDoubt catalog body = (is_shut catalog ≡ false) × HasOther catalog body
 -- what stands behind a gate that isn't known to be closed is no newer than the record: there is no doubt
 abbrev pub IsSettled : {C : Type 0} {g : _} → Catalog C g → Type 0
 IsSettled {C} {g} catalog = is_shut catalog ≡ false → ForSome (g.seen catalog.slots) (λ seen. layout_of (body_of (area (1 - catalog.current) seen)) ≤ catalog.layout)
+
+-- ---- writes
+
+-- the place of its gate
+abbrev pub gate_place : {C : Type 0} {g : _} → Catalog C g → ℕ
+gate_place {C} {g} catalog = 131072 * (1 - catalog.current)
+
+-- the write that closes the gate, where it isn't known to be closed
+abbrev pub closing : {C : Type 0} {g : _} → Catalog C g → List Write
+closing catalog = if is_shut catalog then [] else (gate_place catalog, 0 ∷ []) ∷ []
+
+-- the write of a body behind the gate
+abbrev pub filling : {C : Type 0} {g : _} → Catalog C g → List ℕ → Write
+filling catalog body = (gate_place catalog + 1, to_be_bytes w32 (length body) ++ body)
+
+-- the write that opens the gate
+abbrev pub opening : {C : Type 0} {g : _} → Catalog C g → Write
+opening catalog = (gate_place catalog, 1 ∷ [])
+
+-- between the two moments these writes were begun, in this order, and no others
+abbrev pub Begins : {C : Type 0} {g : _} → Catalog C g → Catalog C g → List Write → Type 0
+Begins {C} {g} old new made = g.writes new.slots ≡ g.writes old.slots ++ made
+
+-- between the two moments this write was begun
+abbrev pub HasBegun : {C : Type 0} {g : _} → Catalog C g → Catalog C g → Write → Type 0
+HasBegun old new write = (made : List Write) × Begins old new made × Contains made write
+
+-- of all writes that were begun this one was the last
+abbrev pub IsLastBegun : {C : Type 0} {g : _} → Catalog C g → Write → Type 0
+IsLastBegun {C} {g} catalog write = (before : List Write) × (g.writes catalog.slots ≡ before ++ write ∷ [])
 
 -- ---- images
 

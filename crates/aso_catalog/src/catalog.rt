@@ -1,4 +1,4 @@
-ghost use Rattle.std.specs.Prelude.{◌≡◌, ◌≢◌, ◌⊎◌, ◌+◌, ◌<◌, ◌≤◌, ◌^◌, ◌-◌, ◌++◌, List, ℕ, Some, Err, true, false, length, take, IfOk, IfErr, OnOk, OnErr, IsErr, MatchOption, is_ok, Bool, ◌↔◌, if◌then◌else◌};
+ghost use Rattle.std.specs.Prelude.{◌≡◌, ◌≢◌, ◌⊎◌, ◌+◌, ◌<◌, ◌≤◌, ◌^◌, ◌-◌, ◌++◌, List, ℕ, Some, Err, true, false, length, take, IfOk, IfErr, OnOk, OnErr, IsErr, IsOk, MatchOption, is_ok, Bool, [], ◌∷◌, ◌↔◌, if◌then◌else◌};
 ghost use Rattle.std.specs.Int.{to_be_bytes, w32};
 ghost use Rattle.aso_disk.specs.Causes.{HasCause, Rose};
 ghost use Rattle.aso_disk.specs.Slots.{Runs, Still, overwrite};
@@ -34,7 +34,7 @@ pub struct Catalog<C: Slots> {
 }
 
 impl<C: Slots> Catalog<C> {
-    ghost use Rattle.aso_catalog.specs.View.{HasOther, HasRecord, IsBefore, IsFilled, IsInDoubt, IsOpened, IsSettled, KeepsRecord, NoNewDoubt, TellsAlike, Throughout, current_layout, device_of, is_shut};
+    ghost use Rattle.aso_catalog.specs.View.{Begins, HasBegun, HasOther, HasRecord, IsBefore, IsFilled, IsInDoubt, IsLastBegun, IsOpened, IsSettled, KeepsRecord, NoNewDoubt, TellsAlike, Throughout, closing, current_layout, device_of, filling, gate_place, is_shut, opening};
 
     /// Opens a catalog, with four device calls: it syncs, and takes the open area of greater layout, with the record in
     /// it, or with None where no gate is open. It takes the memory for the record and for a buffer in which later fills
@@ -132,6 +132,8 @@ impl<C: Slots> Catalog<C> {
         ensures keeps { KeepsRecord self.old self.new }
         ensures layout { current_layout self.new ≡ current_layout self.old }
         ensures any_moment { Throughout self.old self.new (IsBefore self.old) }
+        ensures begun { Begins self.old self.new (closing self.old) }
+        ensures gate { gate_place self.new ≡ gate_place self.old }
         ensures told { TellsAlike self.old self.new }
         ensures same { C.same (device_of self.old) (device_of self.new) }
         ensures cause { HasCause (C.faults (device_of self.old)) (C.faults (device_of self.new)) (IsErr result) }
@@ -152,6 +154,8 @@ impl<C: Slots> Catalog<C> {
         ensures keeps { KeepsRecord self.old self.new }
         ensures layout { current_layout self.new ≡ current_layout self.old }
         ensures any_moment { Throughout self.old self.new (IsBefore self.old) }
+        ensures begun { Begins self.old self.new (filling self.old body.now ∷ []) }
+        ensures gate { gate_place self.new ≡ gate_place self.old }
         ensures told { TellsAlike self.old self.new }
         ensures same { C.same (device_of self.old) (device_of self.new) }
         ensures cause { HasCause (C.faults (device_of self.old)) (C.faults (device_of self.new)) (IsErr result) }
@@ -179,6 +183,8 @@ impl<C: Slots> Catalog<C> {
         ensures doubt { OnErr result ((body : List ℕ) → HasOther self.old body → IsInDoubt self.new body) }
         ensures layout { OnErr result (current_layout self.new ≡ current_layout self.old) }
         ensures any_moment { (body : List ℕ) → HasOther self.old body → Throughout self.old self.new (λ image. IsBefore self.old image ⊎ OpensWith image (Some body)) }
+        ensures begun { Begins self.old self.new (opening self.old ∷ []) }
+        ensures gate { OnErr result (gate_place self.new ≡ gate_place self.old) }
         ensures told { TellsAlike self.old self.new }
         ensures same { C.same (device_of self.old) (device_of self.new) }
         ensures cause { HasCause (C.faults (device_of self.old)) (C.faults (device_of self.new)) (IsErr result) }
@@ -206,6 +212,9 @@ impl<C: Slots> Catalog<C> {
         ensures keeps { KeepsRecord self.old self.new }
         ensures layout { current_layout self.new ≡ current_layout self.old }
         ensures any_moment { Throughout self.old self.new (IsBefore self.old) }
+        ensures begun { Begins self.old self.new (closing self.old) }
+        ensures lax { OnErr result (is_shut self.old ≡ false) }
+        ensures gate { gate_place self.new ≡ gate_place self.old }
         ensures told { TellsAlike self.old self.new }
         ensures same { C.same (device_of self.old) (device_of self.new) }
         ensures cause { HasCause (C.faults (device_of self.old)) (C.faults (device_of self.new)) (IsErr result) }
@@ -237,6 +246,11 @@ impl<C: Slots> Catalog<C> {
         // A crash leaves one of these; where the gate was not begun to be opened, not the new one.
         ensures any_moment { Throughout self.old self.new (λ image. IsBefore self.old image ⊎ OpensWith image (Some body.now)) }
         ensures not_begun { OnErr result (result ≢ Err (PublishFault.Fault true) → Throughout self.old self.new (IsBefore self.old)) }
+
+        // The write of the byte 1 at the gate is begun exactly where it answers Ok, or a fault in doubt; and of a fault it is
+        // the last write exactly where that is in doubt.
+        ensures begun { HasBegun self.old self.new (opening self.old) ↔ (IsOk result ⊎ (result ≡ Err (PublishFault.Fault true))) }
+        ensures last { (in_doubt : Bool) → result ≡ Err (PublishFault.Fault in_doubt) → (in_doubt ≡ true) ↔ IsLastBegun self.new (opening self.new) }
 
         // It doesn't give up by itself.
         ensures end { (result ≡ Err PublishFault.SeqEnd) ↔ (current_layout self.old ≡ 2 ^ 64 - 1) }

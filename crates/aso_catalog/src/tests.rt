@@ -139,6 +139,24 @@ fn list(call: &Call, text: &mut String) -> Result<(), AllocError> {
     }
 }
 
+// Whether a call from one on writes 1 at the first gate.
+fn opens_first(slots: &MemSlots, from: usize) -> bool {
+    let mut opens = false;
+    for (number, call) in slots.calls().iter().enumerate() {
+        if number >= from && is_opening(call) {
+            opens = true;
+        }
+    }
+    opens
+}
+
+fn is_opening(call: &Call) -> bool {
+    match call {
+        Call::Write { at, bytes, .. } => *at == 0 && are_same(bytes, &[1]),
+        _ => false,
+    }
+}
+
 // A catalog with two records, of which each publish of a third one closes a gate first.
 fn with_two(alloc: Global, fail: Vec<u64>) -> Result<Catalog<MemSlots>, Fail> {
     let (mut catalog, _) = opened(alloc, device(alloc, 262_144, &[], fail)?)?;
@@ -250,6 +268,23 @@ fn a_failed_call_leaves_the_record_or_a_doubt(rt: HostRuntime) -> Result<(), Fai
         assert_eq!(rt; publish(alloc, &mut catalog, 4)?, Ok(()));
         let slots = catalog.into_slots();
         assert_eq!(rt; amount_after(alloc, &slots, 100, 0)?, Some(4));
+    }
+    Ok(())
+}
+
+#[test]
+fn a_fault_is_in_doubt_where_the_gate_was_written(rt: HostRuntime) -> Result<(), Fail> {
+    let alloc = rt.alloc();
+    for call in 12..18u64 {
+        let mut catalog = with_two(alloc, vec![in alloc; call]?)?;
+        let answer = publish(alloc, &mut catalog, 3)?;
+        let slots = catalog.into_slots();
+        let in_doubt = opens_first(&slots, 12);
+        assert_eq!(rt;
+            answer,
+            Err(PublishFault::Fault { in_doubt }),
+            "call {call}"
+        );
     }
     Ok(())
 }

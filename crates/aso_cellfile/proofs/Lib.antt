@@ -7,3 +7,8 @@ pub mod Sealed
 pub mod Spans
 pub mod Unique
 pub mod Openings
+pub mod Parts
+pub mod Wholes
+pub mod Rising
+pub mod BlockReads
+pub mod Scans

@@ -1,5 +1,5 @@
 use crate::count::count;
-use aso_disk::{Failed, Slots, Trouble};
+use aso_disk::{Failed, Slots, Trouble, Writes};
 use std::fs::{File, OpenOptions};
 use std::io::{ErrorKind, Write};
 use std::os::unix::fs::FileExt;
@@ -17,10 +17,11 @@ pub struct FileSlots {
     file: File,
     size: u64,
     faults: u64,
+    writes: Writes,
 }
 
 impl FileSlots {
-    ghost use Rattle.std.specs.Prelude.{◌≡◌, None, IfOk};
+    ghost use Rattle.std.specs.Prelude.{◌≡◌, [], None, IfOk};
 
     /// Opens the file of a catalog. A missing one is made whole first: its 262,144 zero bytes are written under the name
     /// with `.new` behind it and synced, the file is renamed, and its folder is synced. An error leaves no device, so no
@@ -30,6 +31,7 @@ impl FileSlots {
         path: &str,
     ) -> Result<FileSlots, Trouble>
         ensures faults { IfOk result (λ slots. ⟦<FileSlots as Slots>⟧.faults slots ≡ 0) }
+        ensures begun { IfOk result (λ slots. ⟦<FileSlots as Slots>⟧.writes slots ≡ []) }
         ensures untold { IfOk result (λ slots. ⟦<FileSlots as Slots>⟧.seen slots ≡ None) }
     {
         let file = match opened(rt, path) {
@@ -48,6 +50,7 @@ impl FileSlots {
             file,
             size: metadata.len(),
             faults: 0,
+            writes: Writes::new(),
         })
     }
 }
@@ -97,6 +100,8 @@ impl Slots for FileSlots {
 
     ghost left = { λ slots k image. ⊥ };
 
+    ghost writes = { λ slots. slots.writes.begun };
+
     ghost faults = { λ slots. slots.faults };
 
     ghost same = { λ first second. ⊤ };
@@ -121,6 +126,7 @@ impl Slots for FileSlots {
     }
 
     fn write(&mut self, at: u64, bytes: &[u8]) -> Result<(), Failed> {
+        self.writes.begin(at, bytes);
         match self.file.write_all_at(bytes, at) {
             Ok(()) => Ok(()),
             Err(_) => Err(count(&mut self.faults)),

@@ -151,7 +151,7 @@ in_table f n l c table is h =
     let e : l ≡ 0 + l = omega arith in
     (r.0, ap f e ∙ r.1)
 
-of_table : (f : ℕ → Option ℕ) (n l : ℕ) (table : List (Option ℕ)) → table ≡ map f (range_with_len 0 n) → l < n → entry table l ≡ f l
+pub of_table : (f : ℕ → Option ℕ) (n l : ℕ) (table : List (Option ℕ)) → table ≡ map f (range_with_len 0 n) → l < n → entry table l ≡ f l
 of_table f n l table is lt =
     let e : 0 + l ≡ l = omega arith in
     ap (λ (t : List (Option ℕ)). entry t l) is ∙ table_at f 0 n l lt ∙ ap f e
@@ -167,7 +167,7 @@ coarser_axis o d w v b a of_b of_a is = record {
       ∙ sym (of_table (class_at o d w.0 w.1) (leaf_count o d) m b.classes of_b.classes q.0);
 }
 
-coarser_at : (ws vs : List Choice) (d : ℕ) → IsCoarserView ws vs → d < length vs → IsCoarserChoice (choice_at ws d) (choice_at vs d)
+pub coarser_at : (ws vs : List Choice) (d : ℕ) → IsCoarserView ws vs → d < length vs → IsCoarserChoice (choice_at ws d) (choice_at vs d)
 coarser_at [] [] d is lt = absurd (omega arith)
 coarser_at [] (v ∷ vs) d is lt = absurd is
 coarser_at (w ∷ ws) [] d is lt = absurd is

@@ -6,3 +6,4 @@ pub mod MakingLemmas
 pub mod CoarserLemmas
 pub mod WidthLemmas
 pub mod RangeLemmas
+pub mod FilledLemmas

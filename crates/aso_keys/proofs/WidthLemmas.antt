@@ -1,20 +1,16 @@
 -- The bits of the keys of data leaves are those that the outline counts.
-use Rattle.std.proofs.Common.{◌≡◌, ℕ, zero, suc, ◌+◌, ◌-◌, ◌^◌, ◌<◌, ◌≤◌, Bool, true, false, inl, inr, List, [], ◌∷◌, length, replicate, refl, sym, ◌∙◌, ap, subst, arith, length-append}
+use Rattle.std.proofs.Common.{◌≡◌, ℕ, zero, suc, ◌+◌, ◌-◌, ◌^◌, ◌<◌, ◌≤◌, Bool, true, false, inl, inr, List, [], ◌∷◌, length, replicate, refl, ◌∙◌, ap, subst, arith, length-append}
 use Rattle.std.specs.Prelude.{Some, None, nat_lt, nat_le, slice_get}
-use Rattle.std.specs.List.{filter, range_with_len, sum_by}
+use Rattle.std.specs.List.{filter, range_with_len}
 use Rattle.std.proofs.Math.Nat.{pow-le-pow_right}
 use Rattle.std.proofs.lemmas.Bool.{lt-ltb, le-ltb, leb-true}
 use Rattle.std.proofs.lemmas.Bool.Decides.{leb_tells}
-use Rattle.std.proofs.lemmas.List.Sums.{sum-map, sum_by-cons}
 use Rattle.aso_tree.proofs.Paths.{filter_range_push}
 use Rattle.aso_outline.specs.declared.draft.Draft.{Draft}
-use Rattle.aso_outline.specs.Classes.{leaf_count, classes_at}
 use Rattle.aso_outline.specs.Rules.{Rule, first_broken, broken, rules, bits_for, key_bits, unless}
 use Rattle.aso_outline.proofs.Kept.{kept_first, kept_if}
-use Rattle.aso_keys.specs.declared.axis.Axis.{Axis}
-use Rattle.aso_keys.specs.Axes.{IsWidth, bits_of, ArePlaced}
-use Rattle.aso_keys.specs.Layouts.{AreAxes, IsLayout}
-use Rattle.aso_keys.specs.Views.{Choice, choice_at, IsBase}
+use Rattle.aso_keys.specs.Axes.{IsWidth}
+use Rattle.aso_keys.specs.Views.{Choice, IsBase}
 
 module _ (n w : ℕ) (is : IsWidth n w) where
   below : (b : ℕ) → b < w → nat_lt (2 ^ b) n ≡ true
@@ -52,7 +48,7 @@ module _ (n w : ℕ) (is : IsWidth n w) where
       subst (λ (m : ℕ). length (filter (λ b. nat_lt (2 ^ b) n) (range_with_len 0 m)) ≡ w) e
       (one_more (w + k) w false f (and_no_more k) ∙ (let z : w + 0 ≡ w = omega arith in rw f z))
 
-  width_counted : w ≤ 32 → bits_for n ≡ w
+  pub width_counted : w ≤ 32 → bits_for n ≡ w
   width_counted le =
       let e : w + (32 - w) ≡ 32 = omega arith in
       subst (λ (m : ℕ). length (filter (λ b. nat_lt (2 ^ b) n) (range_with_len 0 m)) ≡ w) e (and_no_more (32 - w))
@@ -64,32 +60,9 @@ rule_kept [] o k r kept at = cc
 rule_kept (x ∷ rs) o zero r kept at = let e : x ≡ r = cc in subst (λ (z : Rule). z.1 o ≡ None) e (kept_first x rs o kept).0
 rule_kept (x ∷ rs) o (suc k) r kept at = rule_kept rs o k r (kept_first x rs o kept).1 at
 
-few_bits : (o : Draft) → broken o ≡ None → key_bits o ≤ 128
+pub few_bits : (o : Draft) → broken o ≡ None → key_bits o ≤ 128
 unfolding broken
 few_bits o kept = leb-true (key_bits o) 128 (kept_if (nat_le (key_bits o) 128) (rule_kept rules o 11 (12, λ d. unless (nat_le (key_bits d) 128)) kept refl))
-
-base_choice : (xs : List Choice) (d : ℕ) → IsBase xs → (choice_at xs d).1 ≡ 0
-base_choice [] d base = refl
-base_choice (x ∷ xs) zero base = base.0
-base_choice (x ∷ xs) (suc d) base = base_choice xs d base.1
-
-sum_bits : (o : Draft) (xs : List Choice) (d : ℕ) (axes : List Axis) → IsBase xs → ArePlaced axes → AreAxes o xs d axes → bits_of axes ≡ sum_by (λ k. bits_for (leaf_count o k)) (range_with_len d (length axes))
-sum_bits o xs d [] base placed are = refl
-sum_bits o xs d (a ∷ axes) base placed are =
-    let level : (choice_at xs d).1 ≡ 0 = base_choice xs d base in
-    let count : a.count ≡ leaf_count o d = are.0.count ∙ ap (λ (l : ℕ). classes_at o d (choice_at xs d).0 l) level in
-    let here : bits_for (leaf_count o d) ≡ a.width = ap (λ (n : ℕ). bits_for n) (sym count) ∙ width_counted a.count a.width placed.0.width placed.0.narrow in
-    let rest = sum_bits o xs (d + 1) axes base placed.2 are.1 in
-    let all = sum_by-cons (λ k. bits_for (leaf_count o k)) d (range_with_len (d + 1) (length axes)) in
-    omega (arith, here, rest, all)
-
-pub base_bits : (o : Draft) (xs : List Choice) (axes : List Axis) → broken o ≡ None → IsBase xs → ArePlaced axes → IsLayout o xs axes → bits_of axes ≤ 128
-unfolding key_bits
-base_bits o xs axes kept base placed is =
-    let s = sum_bits o xs 0 axes base placed is.parts in
-    let e : bits_of axes ≡ key_bits o = s ∙ ap (λ (n : ℕ). sum_by (λ k. bits_for (leaf_count o k)) (range_with_len 0 n)) is.long ∙ sym (sum-map (λ k. bits_for (leaf_count o k)) (range_with_len 0 (length o.dims))) in
-    let f = few_bits o kept in
-    omega (arith, e, f)
 
 pub based : (n : ℕ) (xs : List Choice) → xs ≡ replicate n (0, 0) → IsBase xs
 based zero [] is = tt

@@ -2,3 +2,4 @@ pub mod Axes
 pub mod Views
 pub mod Ranges
 pub mod Layouts
+pub mod Leaves

@@ -41,8 +41,9 @@ impl Layout {
     ghost use Rattle.aso_outline.specs.declared.draft.Draft.{Draft};
     ghost use Rattle.aso_outline.specs.Numbers.{seat_of};
     ghost use Rattle.aso_keys.specs.Layouts.{AreRanges, IsLayout};
+    ghost use Rattle.aso_keys.specs.Leaves.{HaveLeaves};
     ghost use Rattle.aso_keys.specs.Ranges.{IsRange};
-    ghost use Rattle.aso_keys.specs.Views.{Choice, choice_at, IsBase, IsView, IsCoarserView};
+    ghost use Rattle.aso_keys.specs.Views.{Choice, choice_at, IsView, IsCoarserView};
 
     /// The layout of a view: for each dimension level 0, or a level of a stored hierarchy from 1 to its top. Shifts, widths
     /// and the tables of classes and ranges are made here, in memory in proportion to the members.
@@ -82,14 +83,38 @@ impl Layout {
         ensures { AreCoarser to.now self.now }
     {}
 
-    /// The keys of data leaves have at most 128 bits.
+    /// Keys have at most 128 bits.
     pub fn keeps_bits(&self, outline: &Outline, view: &View)
+        requires view { IsView outline.now view.now.choices }
         requires own { IsLayout outline.now view.now.choices self.now }
-        requires base { IsBase view.now.choices }
         ensures { bits_of self.now ≤ 128 }
     {
         outline.keeps();
         let _axes = &self.axes;
+    }
+
+    /// The keys of a coarser view take no more bits.
+    pub fn keeps_narrower(&self, outline: &Outline, view: &View, to: &Layout, coarser: &View)
+        requires view { IsView outline.now view.now.choices }
+        requires other_view { IsView outline.now coarser.now.choices }
+        requires own { IsLayout outline.now view.now.choices self.now }
+        requires other { IsLayout outline.now coarser.now.choices to.now }
+        requires coarser { IsCoarserView coarser.now.choices view.now.choices }
+        ensures { bits_of to.now ≤ bits_of self.now }
+    {
+        outline.keeps();
+        let _axes = &self.axes;
+        let _others = &to.axes;
+    }
+
+    /// Classes of each dimension are those of some data leaves, whichever are chosen. So `roll` finds no key only where a field is no class,
+    /// or where the leaves of one have no class at the coarser view.
+    pub fn keeps_leaves(&self, outline: &Outline, view: &View)
+        requires view { IsView outline.now view.now.choices }
+        requires own { IsLayout outline.now view.now.choices self.now }
+        ensures { HaveLeaves self.now }
+    {
+        outline.keeps();
     }
 
     /// A member has a range exactly where it is stored, and what it stands for is in the view's hierarchy of its dimension and at least

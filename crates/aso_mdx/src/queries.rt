@@ -376,7 +376,7 @@ fn whole<'s, 'a>(alloc: Global, tokens: &'s [Placed<'a>]) -> Result<Query, Stop<
     }
 }
 
-/// The query that the tokens spell, or the tokens from the fault on.
+/// The query that these tokens write, or what is left from the fault on.
 pub fn query_tokens<'s, 'a>(alloc: Global, tokens: &'s [Placed<'a>]) -> Result<Query, Stop<'s, 'a>>
     ensures found { IfOk result (λ q. QueryTokens (tokens_of tokens.now) q) }
     ensures only { (q : AQuery) → QueryTokens (tokens_of tokens.now) q → Answers result (Ok q) }

@@ -199,7 +199,7 @@ fn whole<'s, 'a>(alloc: Global, tokens: &'s [Placed<'a>]) -> Result<SetText, Sto
     }
 }
 
-/// The set that the tokens spell, or the tokens from the fault on.
+/// The set that these tokens write, or what is left from the fault on.
 pub fn set_tokens<'s, 'a>(alloc: Global, tokens: &'s [Placed<'a>]) -> Result<SetText, Stop<'s, 'a>>
     ensures found { IfOk result (λ s. SetTokens (tokens_of tokens.now) s) }
     ensures only { (s : Set) → SetTokens (tokens_of tokens.now) s → Answers result (Ok s) }

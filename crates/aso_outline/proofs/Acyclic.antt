@@ -25,7 +25,7 @@ use Rattle.aso_outline.proofs.Turns.{below_or_past}
 abbrev pub has : List ℕ → ℕ → Bool
 has ks m = list_any (λ (k : ℕ). eqb k m) ks
 
-right_true : (a b : Bool) → b ≡ true → (a || b) ≡ true
+pub right_true : (a b : Bool) → b ≡ true → (a || b) ≡ true
 right_true true b e = refl
 right_true false b e = e
 
@@ -37,7 +37,7 @@ or_split : (a b : Bool) → (a || b) ≡ true → (a ≡ true) ⊎ (b ≡ true)
 or_split true b e = inl refl
 or_split false b e = inr e
 
-any_there : (p : ℕ → Bool) (ks : List ℕ) (m : ℕ) → has ks m ≡ true → p m ≡ true → list_any p ks ≡ true
+pub any_there : (p : ℕ → Bool) (ks : List ℕ) (m : ℕ) → has ks m ≡ true → p m ≡ true → list_any p ks ≡ true
 any_there p [] m there here = there
 any_there p (k ∷ ks) m there here =
     ⊎_elim

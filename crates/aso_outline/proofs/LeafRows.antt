@@ -2,14 +2,14 @@
 use Rattle.std.specs.Prelude.{is_some, nat_le, nat_lt, slice_get, slice_index, unwrap_or, if◌then◌else◌}
 use Rattle.std.specs.Option.{option_map, option_and_then}
 use Rattle.std.specs.List.{filter, position, range_with_len}
-use Rattle.std.proofs.Common.{◌≡◌, ◌∙◌, ℕ, zero, suc, ◌+◌, ◌-◌, ◌<◌, ◌≤◌, ◌^◌, ◌&&◌, ◌||◌, ◌⊎◌, ⊎_elim, inl, inr, Bool, true, false, not, eqb, cond, List, [], ◌∷◌, length, get_or, Option, Some, None, refl, sym, ap, arith, subst, true≢false}
+use Rattle.std.proofs.Common.{◌≡◌, ◌∙◌, ℕ, zero, suc, ◌+◌, ◌<◌, ◌≤◌, ◌&&◌, ◌||◌, ◌⊎◌, ⊎_elim, inl, inr, Bool, true, false, not, eqb, cond, ◌∷◌, length, get_or, Option, Some, None, refl, sym, ap, arith, true≢false}
 use Rattle.std.proofs.lemmas.Bool.{eqb-true, le-leb, le-ltb, leb-true, lt-ltb, ltb-true}
 use Rattle.std.proofs.lemmas.List.Quantifiers.{position-Some}
 use Rattle.std.proofs.lemmas.Option.{get_or_from_slice_get, none-some, same_Some, slice_get-get_or, slice_get_within}
 use Rattle.std.proofs.lemmas.List.Folds.{list_any_at}
 use Rattle.aso_tree.proofs.Positions.{some_if_any}
 use Rattle.aso_tree.specs.Trees.{class_of, height, is_under, places_of, IsTree}
-use Rattle.aso_tree.proofs.ClassRanges.{in_passing_range, passing_in_order}
+use Rattle.aso_tree.proofs.ClassRanges.{in_passing_range}
 use Rattle.aso_tree.proofs.Ends.{EndsAt}
 use Rattle.aso_outline.specs.declared.draft.Draft.{Draft}
 use Rattle.aso_outline.specs.declared.draft.DraftMember.{DraftMember}
@@ -20,7 +20,7 @@ use Rattle.aso_outline.specs.Leaves.{is_data_place, leaves_before, name_in}
 use Rattle.aso_outline.specs.Members.{Name, data_leaves, dim_at, dim_of, is_dynamic, leaf_names, parents_of, resolve, same_name, seats, tree}
 use Rattle.aso_outline.specs.Parents.{one_parent_each}
 use Rattle.aso_outline.specs.Rules.{breaks_sharing, is_shared, own_names, repeats, shares}
-use Rattle.aso_outline.proofs.ClassLemmas.{class_high, leaf_place_alternate, passes_there, sharer_place}
+use Rattle.aso_outline.proofs.ClassLemmas.{class_high, passes_there, sharer_place}
 use Rattle.aso_outline.proofs.HoldLemmas.{held, held_by_name, leaf_name_is, under_leaf}
 use Rattle.aso_outline.proofs.Known.{same_is}
 use Rattle.aso_outline.proofs.LeafNames.{some_at}

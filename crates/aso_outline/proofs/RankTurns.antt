@@ -100,7 +100,7 @@ module _ (o : Draft) where
 
   -- ---- circles
 
-  needs_past : (k : ℕ) → length (seats o) ≤ k → needs o k ≡ []
+  pub needs_past : (k : ℕ) → length (seats o) ≤ k → needs o k ≡ []
   needs_past k past = ap (λ (s : Option Seat). unwrap_or (option_map (λ (s : Seat). if is_computed o s then needs_at o k s else []) s) []) (no_seat k past)
 
   pub reach_past : (t goal k : ℕ) → length (seats o) ≤ k → reaches t o goal k ≡ false

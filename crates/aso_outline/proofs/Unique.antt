@@ -67,7 +67,7 @@ module _ (o : Draft) (sharing : position (breaks_sharing o) (seats o) ≡ None) 
       sym (test_there (λ (x : DraftMember). x.shared) (tree (dim_at o d) 0) i m is)
       ∙ and_true (is_shared o (Inner d 0 i)) (none_at o (breaks_sharing o) sharing (Inner d 0 i) (slice_get_within (tree (dim_at o d) 0) i m is))
 
-  well_shared : (d h i : ℕ) (m : DraftMember) → slice_get (tree (dim_at o d) h) i ≡ Some m → m.shared ≡ true → is_well_shared o (Inner d h i) ≡ true
+  pub well_shared : (d h i : ℕ) (m : DraftMember) → slice_get (tree (dim_at o d) h) i ≡ Some m → m.shared ≡ true → is_well_shared o (Inner d h i) ≡ true
   well_shared d h i m is shared =
       not_both (is_shared o (Inner d h i)) (is_well_shared o (Inner d h i)) (test_there (λ (x : DraftMember). x.shared) (tree (dim_at o d) h) i m is ∙ shared)
       (none_at o (breaks_sharing o) sharing (Inner d h i) (slice_get_within (tree (dim_at o d) h) i m is))

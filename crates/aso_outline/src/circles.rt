@@ -1,123 +1,122 @@
-// Members whose rank needs itself, turn by turn: a member reaches a goal within a turn more than one that it needs.
-ghost use Rattle.std.specs.Prelude.{◌≡◌, ◌<◌, ◌||◌, ◌==◌, ◌^◌, ℕ, suc, Bool, true, false, length, map, slice_index_or, IfOk};
+// Members whose rank needs itself. A way from a member back to itself shows that it does, and parts in which all that it needs stands
+// in earlier ones that it doesn't.
+ghost use Rattle.std.specs.Prelude.{◌≡◌, ◌==◌, ◌<◌, ◌^◌, true, length, IfOk};
 ghost use Rattle.std.specs.List.{list_any};
-ghost use Rattle.aso_tree.specs.Trees.{places_of};
-ghost use Rattle.aso_outline.specs.Graph.{AreRows, reach_in};
-ghost use Rattle.aso_outline.specs.Members.{seats};
-ghost use Rattle.aso_outline.specs.Ranks.{needs_itself, reaches};
+ghost use Rattle.aso_outline.specs.Graph.{AreRows};
+ghost use Rattle.aso_outline.specs.Parts.{AreInOrder};
+ghost use Rattle.aso_outline.specs.Ranks.{needs, needs_itself};
 
 use crate::draft::Draft;
-use crate::row::Row;
+use crate::parts::is_after_needs;
+use crate::reaching::is_reached;
+use crate::row::{Row, needs_in};
 use aso_num::NoMemory;
 use std::alloc::Global;
 
-fn reach_in(reach: &[bool], member: usize) -> bool
-    ensures { result ≡ reach_in reach.now member }
-{
-    match reach.get(member) {
-        Some(found) => *found,
-        None => false,
+/// The members that a goal leads to, each with one before it on a way from the goal.
+#[derive(Debug, Drop)]
+struct Ways {
+    before: Vec<Option<usize>>,
+    open: Vec<usize>,
+}
+
+impl Ways {
+    fn new(alloc: Global, members: usize, goal: usize) -> Result<Ways, NoMemory> {
+        let before = vec![in alloc; None; members]?;
+        let open = vec![in alloc; goal]?;
+        Ok(Ways { before, open })
+    }
+
+    fn before(&self, member: usize) -> Option<usize> {
+        match self.before.get(member) {
+            Some(before) => *before,
+            None => None,
+        }
+    }
+
+    /// Opens a member that is needed by one on a way, unless it was.
+    fn meet(&mut self, member: usize, need: usize) -> Result<(), NoMemory> {
+        if let Some(before) = self.before.get_mut(need) {
+            if before.is_none() {
+                *before = Some(member);
+                self.open.push(need)?;
+            }
+        }
+        Ok(())
+    }
+
+    /// Goes on from a member. Whether it needs the goal.
+    fn go_on(&mut self, row: &Row, goal: usize, member: usize) -> Result<bool, NoMemory> {
+        for need in row.needs.as_slice() {
+            if *need == goal {
+                return Ok(true);
+            }
+            self.meet(member, *need)?;
+        }
+        Ok(false)
+    }
+
+    /// The first member found that needs the goal.
+    fn last(&mut self, rows: &[Row], goal: usize) -> Result<Option<usize>, NoMemory> {
+        for _member in 0..rows.len().saturating_add(1) {
+            let Some(member) = self.open.pop() else {
+                return Ok(None);
+            };
+            if let Some(row) = rows.get(member) {
+                if self.go_on(row, goal, member)? {
+                    return Ok(Some(member));
+                }
+            }
+        }
+        Ok(None)
     }
 }
 
-fn is_near(reach: &[bool], goal: usize, need: usize) -> bool
-    ensures { result ≡ (need == goal || reach_in reach.now need) }
-{
-    need == goal || reach_in(reach, need)
-}
-
-fn any_near(reach: &[bool], goal: usize, needs: &[usize]) -> bool
-    ensures { result ≡ list_any (λ k. k == goal || reach_in reach.now k) needs.now }
-{
-    needs.iter().any(|need| is_near(reach, goal, *need))
-}
-
-/// The member reaches the goal within one turn more than the table says.
-fn next_reach(
-    _draft: &Draft,
-    rows: &[Row],
-    reach: &[bool],
-    _turn: u32,
-    goal: usize,
-    number: u32,
-) -> bool
-    requires rows { AreRows _draft.now rows.now }
-    requires reach { reach.now ≡ map (reaches _turn _draft.now goal) (places_of (seats _draft.now)) }
-    requires within { number < length rows.now }
-    ensures { result ≡ reaches (suc _turn) _draft.now goal number }
-{
-    let row = &rows[number as usize];
-    any_near(reach, goal, row.needs.as_slice())
-}
-
-fn next_table(
-    alloc: Global,
-    draft: &Draft,
-    rows: &[Row],
-    reach: &[bool],
-    turn: u32,
-    goal: usize,
-) -> Result<Vec<bool>, NoMemory>
-    requires rows { AreRows draft.now rows.now }
-    requires reach { reach.now ≡ map (reaches turn draft.now goal) (places_of (seats draft.now)) }
-    requires short { length rows.now < 2 ^ 32 }
-    ensures { IfOk result (λ v. v.items ≡ map (reaches (suc turn) draft.now goal) (places_of (seats draft.now))) }
-{
-    let mut next = Vec::new(alloc);
-    for number in 0..rows.len() as u32 {
-        next.push(next_reach(draft, rows, reach, turn, goal, number))?;
+/// A way from the goal over needs back to it, from its end: the first needs the goal, each later one the one before it, and the
+/// last is the goal. It is empty where there is none.
+fn way_back(alloc: Global, rows: &[Row], goal: usize) -> Result<Vec<usize>, NoMemory> {
+    let mut ways = Ways::new(alloc, rows.len(), goal)?;
+    let mut way = Vec::new(alloc);
+    let mut next = ways.last(rows, goal)?;
+    for _member in 0..rows.len() {
+        let Some(member) = next else {
+            return Ok(way);
+        };
+        way.push(member)?;
+        next = ways.before(member);
     }
-    Ok(next)
+    Ok(way)
 }
 
-/// Within no turn nothing is reached.
-fn first_table(
-    alloc: Global,
-    _draft: &Draft,
-    rows: &[Row],
-    _goal: usize,
-) -> Result<Vec<bool>, NoMemory>
-    requires rows { AreRows _draft.now rows.now }
-    requires short { length rows.now < 2 ^ 32 }
-    ensures { IfOk result (λ v. v.items ≡ map (reaches 0 _draft.now _goal) (places_of (seats _draft.now))) }
+fn is_in(needs: &[usize], need: usize) -> bool
+    ensures { result ≡ list_any (λ k. k == need) needs.now }
 {
-    let reach = vec![in alloc; false; rows.len()]?;
-    Ok(reach)
+    needs.iter().any(|other| *other == need)
 }
 
-fn are_same(a: &[bool], b: &[bool]) -> bool
-    requires { length a.now ≡ length b.now }
-    ensures { result ≡ true → (k : ℕ) → k < length a.now → slice_index_or a.now k false ≡ slice_index_or b.now k false }
+fn does_need(draft: &Draft, rows: &[Row], member: usize, need: usize) -> bool
+    requires { AreRows draft.now rows.now }
+    ensures { result ≡ list_any (λ k. k == need) (needs draft.now member) }
 {
-    for at in 0..a.len() {
-        if a[at] != b[at] {
+    is_in(needs_in(draft, rows, member), need)
+}
+
+/// The way leads from the goal back to it.
+fn is_circle(draft: &Draft, rows: &[Row], goal: usize, way: &[usize]) -> bool
+    requires { AreRows draft.now rows.now }
+    ensures { result ≡ true → needs_itself draft.now goal ≡ true }
+{
+    let mut next = goal;
+    for member in way {
+        if !does_need(draft, rows, *member, next) {
             return false;
         }
-    }
-    true
-}
-
-/// Which members reach the goal over their needs.
-fn reach_table(
-    alloc: Global,
-    draft: &Draft,
-    rows: &[Row],
-    goal: usize,
-) -> Result<Vec<bool>, NoMemory>
-    requires rows { AreRows draft.now rows.now }
-    requires short { length rows.now < 2 ^ 32 }
-    ensures { IfOk result (λ v. v.items ≡ map (reaches (length (seats draft.now)) draft.now goal) (places_of (seats draft.now))) }
-{
-    let mut reach = first_table(alloc, draft, rows, goal)?;
-    for turn in 0..rows.len() as u32 {
-        let next = next_table(alloc, draft, rows, reach.as_slice(), turn, goal)?;
-        let is_done = are_same(next.as_slice(), reach.as_slice());
-        if is_done {
-            return Ok(reach);
+        if *member == goal {
+            return true;
         }
-        reach = next;
+        next = *member;
     }
-    Ok(reach)
+    false
 }
 
 /// The rank of the member needs itself.
@@ -125,12 +124,20 @@ pub fn needs_itself(
     alloc: Global,
     draft: &Draft,
     rows: &[Row],
+    parts: &[usize],
     number: u32,
 ) -> Result<bool, NoMemory>
     requires rows { AreRows draft.now rows.now }
     requires short { length rows.now < 2 ^ 32 }
+    requires order { AreInOrder draft.now parts.now }
     ensures { IfOk result (λ b. b ≡ needs_itself draft.now number) }
 {
-    let reach = reach_table(alloc, draft, rows, number as usize)?;
-    Ok(reach_in(reach.as_slice(), number as usize))
+    if is_after_needs(draft, rows, parts, number as usize) {
+        return Ok(false);
+    }
+    let way = way_back(alloc, rows, number as usize)?;
+    if is_circle(draft, rows, number as usize, way.as_slice()) {
+        return Ok(true);
+    }
+    is_reached(alloc, draft, rows, number)
 }

@@ -7,6 +7,7 @@ impl Outline {
     ghost use Rattle.std.specs.Prelude.{◌≡◌, ◌<◌, ◌≤◌, ◌+◌, ℕ, length, Some, false, true};
     ghost use Rattle.aso_tree.specs.Trees.{height};
     ghost use Rattle.aso_outline.specs.declared.seat.Seat.TheVariants.{Inner};
+    ghost use Rattle.aso_outline.specs.ClassLeaves.{HasLeaf};
     ghost use Rattle.aso_outline.specs.Classes.{class_at, classes_at, has_range, holds_place, is_in, leaf_count};
     ghost use Rattle.aso_outline.specs.Leaves.{leaves_before};
     ghost use Rattle.aso_outline.specs.Members.{dim_at, dim_of, holds, is_dynamic, parents_of, resolve, seats, tree};
@@ -80,8 +81,17 @@ impl Outline {
         self.shared_range(dim, hier, at)
     }
 
-    /// A hierarchy has no more classes at a coarser level than at a finer one above level 0.
-    pub fn keeps_fewer(&self, dim: u32, hier: u32, fine: u32, coarse: u32)
+    /// Each class of a stored hierarchy is that of a data leaf.
+    pub fn keeps_classes(&self, dim: u32, hier: u32, level: u32)
+        requires dim { dim < length self.now.dims }
+        requires hier { hier < length (dim_at self.now dim).hiers }
+        requires stored { is_dynamic self.now (Inner dim hier 0) ≡ false }
+        ensures { (class : ℕ) → class < classes_at self.now dim hier level → HasLeaf self.now dim hier level class }
+    {
+        self.keeps();
+    }
+
+    fn keeps_fewer_above(&self, dim: u32, hier: u32, fine: u32, coarse: u32)
         requires dim { dim < length self.now.dims }
         requires hier { hier < length (dim_at self.now dim).hiers }
         requires above { 0 < fine }
@@ -89,6 +99,21 @@ impl Outline {
         ensures { classes_at self.now dim hier coarse ≤ classes_at self.now dim hier fine }
     {
         self.tree_table(dim, hier).forest.keeps_fewer(fine, coarse);
+    }
+
+    /// A hierarchy has no more classes at a coarser level than at a finer one. Than data leaves that is said of stored hierarchies.
+    pub fn keeps_fewer(&self, dim: u32, hier: u32, fine: u32, coarse: u32)
+        requires dim { dim < length self.now.dims }
+        requires hier { hier < length (dim_at self.now dim).hiers }
+        requires stored { fine ≡ 0 → is_dynamic self.now (Inner dim hier 0) ≡ false }
+        requires coarser { fine ≤ coarse }
+        ensures { classes_at self.now dim hier coarse ≤ classes_at self.now dim hier fine }
+    {
+        if fine > 0 {
+            self.keeps_fewer_above(dim, hier, fine, coarse);
+        } else {
+            self.keeps_classes(dim, hier, coarse);
+        }
     }
 
     fn has_range_above(&self, dim: u32, hier: u32, at: u32, level: u32) -> bool

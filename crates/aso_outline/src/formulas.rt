@@ -6,6 +6,7 @@ ghost use Rattle.aso_outline.specs.Atoms.{atoms};
 ghost use Rattle.aso_outline.specs.Graph.{AreRanks, AreRows};
 ghost use Rattle.aso_outline.specs.Members.{seats};
 ghost use Rattle.aso_outline.specs.Named.{Finds, IsRanked};
+ghost use Rattle.aso_outline.specs.Parts.{AreInOrder};
 ghost use Rattle.aso_outline.specs.Ranks.{at_number, rank};
 ghost use Rattle.aso_outline.specs.Rules.{are_of_different_dims, breaks_formulas, breaks_rank, count_in, has_wrong_atom, is_atom, is_base, is_operand, is_well_named, least_formula};
 ghost use Rattle.aso_outline.specs.Small.{HasTrees};
@@ -15,6 +16,7 @@ use crate::draft::{Draft, Expr};
 use crate::find::find_all;
 use crate::look::member_at;
 use crate::needs::rows;
+use crate::parts::parts;
 use crate::ranks::ranks;
 use crate::resolve::is_computed;
 use crate::row::Row;
@@ -86,7 +88,7 @@ fn is_well_named(draft: &Draft, dim: u32, found: &[Seat]) -> bool
 
 /// The names are those of an atom of a formula in the dimension.
 #[tactic(auto, unfolding(crate::specs::Rules::is_atom))]
-fn is_atom(
+pub fn is_atom(
     draft: &Draft,
     table: &[Seat],
     names: &NameTable,
@@ -166,17 +168,19 @@ fn breaks_rank(
     alloc: Global,
     draft: &Draft,
     rows: &[Row],
+    parts: &[usize],
     own: Option<u32>,
     number: u32,
 ) -> Result<bool, NoMemory>
     requires rows { AreRows draft.now rows.now }
     requires short { length rows.now < 2 ^ 32 }
+    requires order { AreInOrder draft.now parts.now }
     requires rank { own ≡ rank draft.now number }
     ensures { IfOk result (λ b. b ≡ breaks_rank draft.now number) }
 {
     match own {
         Some(rank) => Ok(rank > 64),
-        None => needs_itself(alloc, draft, rows, number),
+        None => needs_itself(alloc, draft, rows, parts, number),
     }
 }
 
@@ -187,6 +191,7 @@ fn breaks_formulas(
     table: &[Seat],
     names: &NameTable,
     rows: &[Row],
+    parts: &[usize],
     own: Option<u32>,
     number: u32,
     found: &mut Vec<Seat>,
@@ -197,6 +202,7 @@ fn breaks_formulas(
     requires few { length draft.now.dims < 2 ^ 32 }
     requires rows { AreRows draft.now rows.now }
     requires short { length rows.now < 2 ^ 32 }
+    requires order { AreInOrder draft.now parts.now }
     requires rank { own ≡ rank draft.now number }
     requires within { number < length table.now }
     ensures { IfOk result (λ b. b ≡ breaks_formulas draft.now number) }
@@ -205,7 +211,7 @@ fn breaks_formulas(
     if is_wrong {
         return Ok(true);
     }
-    breaks_rank(alloc, draft, rows, own, number)
+    breaks_rank(alloc, draft, rows, parts, own, number)
 }
 
 /// The first member with a wrong atom or a wrong rank, given all ranks.
@@ -226,10 +232,21 @@ fn first_wrong(
     requires ranks { AreRanks draft.now ranks.now }
     ensures { IfOk result (λ r. r ≡ least_formula draft.now) }
 {
+    let parts = parts(alloc, draft, rows, ranks)?;
     let mut found = Vec::new(alloc);
     for number in 0..rows.len() as u32 {
         let own = ranks[number as usize];
-        let breaks = breaks_formulas(alloc, draft, table, names, rows, own, number, &mut found)?;
+        let breaks = breaks_formulas(
+            alloc,
+            draft,
+            table,
+            names,
+            rows,
+            parts.as_slice(),
+            own,
+            number,
+            &mut found,
+        )?;
         if breaks {
             return Ok(Some(number));
         }

@@ -97,7 +97,7 @@ fn push_atom(
 
 /// Adds the members of the dimension that a formula names.
 #[tactic(auto, using(crate::proofs::Operands::operands_cell, crate::proofs::Operands::operands_neg, crate::proofs::Operands::operands_bin))]
-fn push_operands(
+pub fn push_operands(
     draft: &Draft,
     table: &[Seat],
     names: &NameTable,
@@ -141,7 +141,7 @@ fn push_child(
 }
 
 /// Adds the children: they stand among those that follow as far as these lie below the member.
-fn push_children(
+pub fn push_children(
     draft: &Draft,
     number: u32,
     seat: Seat,

@@ -1,8 +1,8 @@
 // The publish of a commit.
-ghost use Rattle.std.specs.Prelude.{◌≡◌, ◌≢◌, ◌⊎◌, ◌+◌, ◌-◌, ◌≤◌, ◌<◌, ◌^◌, true, Some, None, Err, OnOk, OnErr, length};
+ghost use Rattle.std.specs.Prelude.{◌≡◌, ◌≢◌, ◌⊎◌, ◌+◌, ◌-◌, ◌≤◌, ◌<◌, ◌^◌, ◌↔◌, true, Some, None, Err, OnOk, OnErr, IsOk, length};
 ghost use Rattle.aso_disk.specs.Causes.{Rose};
 ghost use Rattle.aso_catalog.specs.Record.{IsRecord};
-ghost use Rattle.aso_catalog.specs.View.{IsTold, TellsAlike, Throughout, current_layout, device_of};
+ghost use Rattle.aso_catalog.specs.View.{HasBegun, IsTold, TellsAlike, Throughout, current_layout, device_of, opening};
 ghost use Rattle.aso_stage.specs.Images.{Covers, IsImageOf, Recovers};
 ghost use Rattle.aso_stage.specs.Machine.{Held, held};
 ghost use Rattle.aso_stage.specs.Store.{recovered, state_with};
@@ -29,6 +29,7 @@ pub fn publish_next<C: Slots>(
     ensures doubt { result ≡ Err (PublishFault.Fault true) → (h : Held) → Covers catalog.old h → Covers catalog.new (held h.state (Some (state_with next store.old.outline))) }
     ensures keeps { OnErr result (result ≢ Err (PublishFault.Fault true) → (h : Held) → Covers catalog.old h → Covers catalog.new h) }
     ensures any_moment { (h : Held) → Covers catalog.old h → Throughout catalog.old catalog.new (λ c. IsTold catalog.old → IsImageOf h c ⊎ Recovers c (state_with next store.old.outline)) }
+    ensures begun { HasBegun catalog.old catalog.new (opening catalog.old) ↔ (IsOk result ⊎ (result ≡ Err (PublishFault.Fault true))) }
     ensures layout { OnOk result (current_layout catalog.new ≡ current_layout catalog.old + 1) }
     ensures same_layout { OnErr result (current_layout catalog.new ≡ current_layout catalog.old) }
     ensures cause { OnErr result (Rose (C.faults (device_of catalog.old)) (C.faults (device_of catalog.new))) }

@@ -1,9 +1,7 @@
-use Rattle.std.proofs.Common.{◌∙◌, Bool, List, ap}
-use Rattle.aso_outline.specs.Graph.{reach_in}
-use Rattle.aso_outline.proofs.RankTurns.{itself}
+use Rattle.std.proofs.Common.{◌∙◌, sym}
+use Rattle.aso_outline.proofs.PartLemmas.{in_no_circle}
 use Rattle.aso_outline.proofs.circles.needs_itself.Goals as goal
 
-pub returns : goal.returns
-returns c =
-    c.reach_in.ensures
-    ∙ (ap (λ (xs : List Bool). reach_in xs c.args.number) c.as_slice.ensures.value ∙ itself c.args.draft.now c.args.number c.in_ok-reach.reach.items c.in_ok-reach.ensures)
+pub returns-then-is_after_needs : goal.returns-then-is_after_needs
+returns-then-is_after_needs c =
+    sym (in_no_circle c.args.draft.now c.args.parts.now c.requires.order c.args.number (sym c.is_after_needs.ensures ∙ c.if-is_after_needs.true))

@@ -1,4 +1,4 @@
-use Rattle.std.proofs.Common.{◌≡◌, ℕ, ◌+◌, ◌-◌, ◌*◌, ◌≤◌, ◌++◌, List, true, false, length, take, length-append, refl, sym, ◌∙◌, ap, subst, arith}
+use Rattle.std.proofs.Common.{◌≡◌, ℕ, ◌+◌, ◌-◌, ◌*◌, ◌≤◌, ◌++◌, ◌∷◌, [], List, true, false, length, take, length-append, refl, sym, ◌∙◌, ap, subst, arith}
 use Rattle.std.specs.Int.{to_be_bytes, w32}
 use Rattle.aso_catalog.proofs.Exits.{at_flags, keeps, fill_fails, fills, before_fill, Stood, Wrote, Synced, Room}
 use Rattle.aso_catalog.proofs.catalog.Catalog.fill_area.Goals as goal
@@ -74,3 +74,15 @@ returns-clause-any_moment g c =
     let small : length (take (4 + length c.args.body.now) c.deref.result.now) ≤ 131071 = omega (arith, c.requires.body.fits) in
     let stood : Stood g.C.Slots.moment g.C.Slots.left g.C.Slots.seen me.slots c.write_through.new.slots me.current me.within me.layout me.present me.shut me.kept true me.kept = λ s was. at_flags me.current me.layout me.present me.shut me.kept true me.kept s _ c.requires.shut refl (me.stands s was) in
     before_fill g.C.Slots.moment g.C.Slots.left g.C.Slots.seen me.slots c.write_through.new.slots me.current me.within me.layout me.present me.shut me.kept me.kept (length (take (4 + length c.args.body.now) c.deref.result.now)) small stood wrote
+
+pub returns-in_err-write_through-clause-begun : goal.returns-in_err-write_through-clause-begun
+returns-in_err-write_through-clause-begun g c =
+    let me = c.args.self.now in
+    let is_frame : take (4 + length c.args.body.now) c.deref.result.now ≡ to_be_bytes w32 (length c.args.body.now) ++ c.args.body.now = ap (λ (l : List ℕ). take (4 + length c.args.body.now) l) c.deref.ensures.value ∙ c.frame.ensures.frame in
+    subst (λ (l : List ℕ). g.C.Slots.writes c.write_through.new.slots ≡ g.C.Slots.writes me.slots ++ (131072 * (1 - me.current) + 1, l) ∷ []) is_frame c.write_through.ensures.begun
+
+pub returns-clause-begun : goal.returns-clause-begun
+returns-clause-begun g c =
+    let me = c.args.self.now in
+    let is_frame : take (4 + length c.args.body.now) c.deref.result.now ≡ to_be_bytes w32 (length c.args.body.now) ++ c.args.body.now = ap (λ (l : List ℕ). take (4 + length c.args.body.now) l) c.deref.ensures.value ∙ c.frame.ensures.frame in
+    subst (λ (l : List ℕ). g.C.Slots.writes c.write_through.new.slots ≡ g.C.Slots.writes me.slots ++ (131072 * (1 - me.current) + 1, l) ∷ []) is_frame c.write_through.ensures.begun

@@ -1,7 +1,4 @@
-use Rattle.std.proofs.Common.{◌∙◌, ap, subst, sym}
-use Rattle.aso_outline.specs.declared.seat.Seat.{Seat}
-use Rattle.aso_outline.specs.Classes.{has_range}
-use Rattle.aso_outline.specs.Members.{resolve}
+use Rattle.std.proofs.Common.{subst, sym}
 use Rattle.aso_outline.specs.Numbers.{IsSeat}
 use Rattle.aso_outline.proofs.Kept.{has_trees}
 use Rattle.aso_outline.proofs.Rooted.{kept_labels, kept_trees, resolved_there}

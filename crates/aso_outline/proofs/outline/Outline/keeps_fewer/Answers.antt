@@ -1,14 +1,11 @@
-use Rattle.std.proofs.Common.{◌<◌, ◌≤◌, ℕ, List, arith, subst}
-use Rattle.aso_tree.specs.Trees.{class_count}
-use Rattle.aso_outline.specs.Members.{dim_at, parents_of, tree}
-use Rattle.aso_outline.proofs.ClassLemmas.{classes_high}
+use Rattle.std.proofs.Common.{◌≡◌, ◌≤◌, ap, arith}
+use Rattle.aso_outline.specs.Classes.{classes_at}
+use Rattle.aso_outline.proofs.PlacedLeaves.{classes_few}
 use Rattle.aso_outline.proofs.outline.Outline.keeps_fewer.Goals as goal
 
-pub returns : goal.returns
-returns c =
+pub returns-else-fine-gt0 : goal.returns-else-fine-gt0
+returns-else-fine-gt0 c =
     let o = c.args.self.now in
-    let d = c.args.dim in
-    let h = c.args.hier in
-    let ps = parents_of (tree (dim_at o d) h) in
-    let most : class_count ps c.args.coarse ≤ class_count ps c.args.fine = subst (λ (qs : List ℕ). class_count qs c.args.coarse ≤ class_count qs c.args.fine) c.tree_table.ensures.forest c.keeps_fewer.ensures in
-    omega (arith, most, classes_high o d h c.args.coarse (omega (arith, c.requires.above, c.requires.coarser)), classes_high o d h c.args.fine c.requires.above)
+    let zero : c.args.fine ≡ 0 = omega (arith, c.if-fine-gt0.false) in
+    let few : classes_at o c.args.dim c.args.hier c.args.coarse ≤ classes_at o c.args.dim c.args.hier 0 = classes_few o c.args.dim c.args.hier c.args.coarse c.keeps_classes.ensures in
+    omega (arith, few, ap (classes_at o c.args.dim c.args.hier) zero)
