@@ -1,7 +1,8 @@
 #!/bin/sh
 # Times `Outline::verify` of the proved build over drafts of a million members: a flat one, a deep one, one with 10,000 formulas in
-# chains of the greatest rank, and one that is refused, whose first half leads to the circles of its second half. The proved program
-# is made in a folder of its own, which is removed at the end; from nothing its proof takes many minutes. Wants the kit's `rt`.
+# chains of the greatest rank, and one that is refused, whose first half leads to the circles of its second half. Beside it, in turn,
+# bench/outline.rs copies the names alone into a hash map. Wants the kit's `rt` and a `rustc`. The proved program is made in a folder of
+# its own, which is removed at the end; from nothing its proof takes many minutes.
 set -eu
 top=$(cd "$(dirname "$0")/.." && pwd)
 turns=${1:-5}
@@ -174,10 +175,16 @@ fn main(rt: HostRuntime) -> Result<()> {
 }
 EOP
 (cd "$work/crates/times" && rt run) >"$work/build.log" 2>&1 || { tail -20 "$work/build.log" >&2; exit 1; }
+rustc -O -o "$work/plain" "$top/bench/outline.rs"
 for turn in $(seq "$turns"); do
     "$work/crates/times/out/times"
+    "$work/plain"
 done >"$work/times.txt"
-echo "draft members greatest_rank (or broken rule:member) milliseconds (the median)"
-for name in flat deep chained circled; do
-    grep "^$name " "$work/times.txt" | sort -k4n | sed -n "$(((turns + 1) / 2))p"
+median() {
+    grep "^$1 " "$work/times.txt" | sort -k4n | sed -n "$(((turns + 1) / 2))p"
+}
+names=$(median names | cut -d ' ' -f 4)
+echo "draft members greatest_rank (or broken rule:member) milliseconds (the median) ratio_to_names"
+for name in names flat deep chained circled; do
+    median "$name" | awk -v names="$names" '{ printf "%s %.2f\n", $0, $4 / names }'
 done
