@@ -14,6 +14,8 @@ use aso_num::{List, NoMemory, Text};
 use serde_json::Value;
 use std::alloc::Global;
 
+const MOST_COLUMNS: usize = 256;
+
 fn dimension_column(
     alloc: Global,
     value: &Value,
@@ -98,7 +100,7 @@ fn all_columns(alloc: Global, values: &[Value]) -> Result<Option<Vec<WrittenColu
 fn counted(columns: Vec<WrittenColumn>) -> Option<Vec<WrittenColumn>>
     ensures { option_map (λ v. v.items) result ≡ counted columns.items }
 {
-    if 0 < columns.len() && columns.len() <= 256 {
+    if 0 < columns.len() && columns.len() <= MOST_COLUMNS {
         Some(columns)
     } else {
         None

@@ -5,6 +5,8 @@ ghost use Rattle.aso_rules.specs.Written.{delimiter_in, delimiter_of, header_rec
 
 use serde_json::Value;
 
+const MOST_HEADER_RECORDS: u64 = 1000;
+
 fn is_delimiter(byte: u8) -> bool
     ensures { result ≡ is_delimiter byte }
 {
@@ -39,7 +41,7 @@ pub fn header_records(value: &Value) -> Option<u32>
 {
     match value.get("header_records") {
         Some(said) => match said.as_u64() {
-            Some(count) if count <= 1000 => Some(count as u32),
+            Some(count) if count <= MOST_HEADER_RECORDS => Some(count as u32),
             _ => None,
         },
         None => Some(0),

@@ -17,3 +17,6 @@ pub use aso_num::NoMemory;
 pub use fault::RulesFault;
 pub use reading::read;
 pub use rules::{Column, Rules};
+
+#[cfg(test)]
+mod tests;
