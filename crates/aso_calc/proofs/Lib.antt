@@ -6,4 +6,6 @@ pub mod Choices
 pub mod LastOf
 pub mod StoredLemmas
 pub mod ValueLemmas
+pub mod ListingLemmas
+pub mod BeenLemmas
 pub mod Examples

@@ -4,3 +4,5 @@ pub mod Keys
 pub mod Tables
 pub mod Stored
 pub mod Known
+pub mod Needs
+pub mod Listed

@@ -24,7 +24,7 @@ pub fn push_members(members: &[u32], key: &mut Vec<u64>) -> Result<(), NoMemory>
     Ok(())
 }
 
-fn push_attrs(attrs: &[Option<u32>], key: &mut Vec<u64>) -> Result<(), NoMemory>
+pub fn push_attrs(attrs: &[Option<u32>], key: &mut Vec<u64>) -> Result<(), NoMemory>
     ensures { OnOk result (key.new.items ≡ key.old.items ++ map attr_code attrs.now) }
 {
     for attr in attrs {

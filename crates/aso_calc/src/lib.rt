@@ -6,12 +6,15 @@ mod choice;
 mod fault;
 mod formula;
 mod key;
+mod listing;
 mod members;
 mod operands;
 mod stored;
 mod table;
 mod values;
+mod visits;
 
 pub use fault::CalcFault;
 pub use stored::StoredValues;
 pub use values::value;
+pub use visits::needs;

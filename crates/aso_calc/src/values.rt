@@ -249,7 +249,12 @@ fn value_within(
 }
 
 /// The sum of the ranks.
-fn ranks_of(alloc: Global, outline: &Outline, extra: &Extra, base: &[u32]) -> Result<u32, NoMemory>
+pub fn ranks_of(
+    alloc: Global,
+    outline: &Outline,
+    extra: &Extra,
+    base: &[u32],
+) -> Result<u32, NoMemory>
     requires { length base.now ≤ 16 }
     ensures { IfOk result (λ r. r ≡ ranks_of outline.now extra.now.members.items base.now) }
 {
