@@ -103,6 +103,9 @@ fn main(rt: HostRuntime) -> ExitCode {
             Some(Asked::Create { dir, .. }) => {
                 run_in(&rt, &words, dir, true, &mut library, &mut out)
             }
+            Some(Asked::Run { dir, .. }) => {
+                run_in(&rt, &words, dir, false, &mut library, &mut out)
+            }
             _ => run_alone(&rt, &words, &mut library, &mut out),
         },
         Err(_) => unopened(&mut out, Trouble::NoMemory),

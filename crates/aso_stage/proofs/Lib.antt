@@ -12,3 +12,6 @@ pub mod Tuples
 pub mod Changes
 pub mod Kept
 mod Examples
+pub mod Sinks
+pub mod Taking
+pub mod Sessions

@@ -13,3 +13,5 @@ pub mod Texts
 pub mod Slots
 pub mod Grids
 pub mod Verdicts
+pub mod Taking
+pub mod Runs

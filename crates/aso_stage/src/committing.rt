@@ -29,6 +29,7 @@ pub fn publish_next<C: Slots>(
     ensures doubt { result ≡ Err (PublishFault.Fault true) → (h : Held) → Covers catalog.old h → Covers catalog.new (held h.state (Some (state_with next store.old.outline))) }
     ensures keeps { OnErr result (result ≢ Err (PublishFault.Fault true) → (h : Held) → Covers catalog.old h → Covers catalog.new h) }
     ensures any_moment { (h : Held) → Covers catalog.old h → Throughout catalog.old catalog.new (λ c. IsTold catalog.old → IsImageOf h c ⊎ Recovers c (state_with next store.old.outline)) }
+    ensures past { Throughout catalog.old catalog.new (λ c. Unit {0}) }
     ensures begun { HasBegun catalog.old catalog.new (opening catalog.old) ↔ (IsOk result ⊎ (result ≡ Err (PublishFault.Fault true))) }
     ensures layout { OnOk result (current_layout catalog.new ≡ current_layout catalog.old + 1) }
     ensures same_layout { OnErr result (current_layout catalog.new ≡ current_layout catalog.old) }

@@ -3,6 +3,7 @@ ghost use Rattle.std.specs.Prelude.{◌≡◌, ◌≤◌, None, IsSome, is_some,
 ghost use Rattle.aso_disk.specs.Causes.{Rose};
 ghost use Rattle.aso_disk.specs.Slots.{Runs, Still};
 ghost use Rattle.aso_catalog.specs.Image.{FromSync, SomeImage};
+ghost use Rattle.aso_catalog.specs.Record.{IsStorable};
 ghost use Rattle.aso_catalog.specs.View.{current_layout, device_of};
 ghost use Rattle.aso_stage.specs.Images.{Covers, Recovers};
 ghost use Rattle.aso_stage.specs.Machine.{held};
@@ -32,6 +33,7 @@ pub fn open_store<C: Slots>(
     ensures store { IfOk result (λ p. IsStore p.1) }
     ensures covers { IfOk result (λ p. Covers p.0 (held (state_of p.1) None)) }
     ensures layout { IfOk result (λ p. current_layout p.0 ≡ p.1.saved.layout) }
+    ensures storable { IfOk result (λ p. IsStorable p.1.saved) }
 
     // From the sync on a crash leaves what recovers to it. Until then, what it might have left before.
     ensures synced { IfOk result (λ p. FromSync C.moment C.left slots (device_of p.0) (λ image. IsSome (C.seen slots) → Recovers image (state_of p.1))) }

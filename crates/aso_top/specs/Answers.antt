@@ -1,45 +1,20 @@
--- What a run answers: a status and a text, what of the text reaches the sink, and what a crash leaves of the catalog.
-use Rattle.std.specs.Prelude.{◌≡◌, ◌⊎◌, ℕ, List, ◌++◌, ◌∷◌, [], Option, Some, None, IfSome, IsSome, MatchOption, codes}
+-- What a run answers to a command: a status and a text, and what a crash leaves of the catalog.
+use Rattle.std.specs.Prelude.{◌≡◌, ◌⊎◌, ℕ, List, Option, Some, None, IsSome, MatchOption, codes}
 use Rattle.aso_num.specs.declared.status.Status.{Status}
-use Rattle.aso_num.specs.declared.status.Status.TheVariants.{Done, Usage, Refused, Library, Sink, NoMemory}
+use Rattle.aso_num.specs.declared.status.Status.TheVariants.{Done, Usage, Refused, Library, NoMemory}
 use Rattle.aso_disk.specs.Causes.{Rose}
-use Rattle.aso_disk.specs.Texts.{Texts, Appends, AppendsFront}
-use Rattle.aso_spec.specs.Grid.{shown}
+use Rattle.aso_disk.specs.Texts.{Texts}
 use Rattle.aso_spec.specs.Sheet.{Sheet}
 use Rattle.aso_sheet.specs.Replies.{Spells, IsReply}
 use Rattle.aso_stage.specs.Opening.{IsUntouched}
 use Rattle.aso_stage.specs.Create.{CreateAnswer, CreateLeaves, IsCreated}
 use Rattle.aso_top.specs.declared.words.Command.{Command}
-use Rattle.aso_top.specs.declared.words.Command.TheVariants.{Eval, Create}
+use Rattle.aso_top.specs.declared.words.Command.TheVariants.{Eval, Create, Run}
 use Rattle.aso_top.specs.Words.{command_of}
-
--- ---- lines
-
-abbrev pub usage_line : List ℕ
-usage_line = codes "usage: aso eval SHEET, create DIR OUTLINE, run DIR SCRIPT, check DIR, sample DIR NUMBER CELLS, serve DIR [--rounds N] SCRIPT...\n"
-
-abbrev pub no_text_line : List ℕ → List ℕ
-no_text_line name = codes "ERROR 0 206 no such text: " ++ shown name ++ 10 ∷ []
-
-abbrev pub library_line : List ℕ
-library_line = codes "ERROR 0 304 library fault\n"
-
-abbrev pub memory_line : List ℕ
-memory_line = codes "ERROR 0 401 no memory\n"
-
--- ---- texts
-
--- some text, or that there is none: what the library has under the name, where it tells its texts
-pub record Found (texts : Option Texts) (name : List ℕ) (P : Option (List ℕ) → Type 0) : Type 0 where
-  pub found : Option (List ℕ)
-  pub told : IfSome texts (λ known. found ≡ known name)
-  pub has : P found
-
--- the library failed in this call, or no memory was left for the text
-abbrev pub NotRead : Type 0 → Status → List ℕ → Type 0
-NotRead failed Library out = failed × (out ≡ library_line)
-NotRead failed NoMemory out = out ≡ memory_line
-NotRead failed _ out = ⊥
+use Rattle.aso_top.specs.Lines.{library_line, memory_line, no_text_line, usage_line}
+use Rattle.aso_top.specs.Found.{Found, NotRead}
+use Rattle.aso_top.specs.Ends.{Gives}
+use Rattle.aso_top.specs.Scripts.{ScriptRun}
 
 -- ---- sheets
 
@@ -63,25 +38,6 @@ EvalAnswer failed texts name Library out = failed × (out ≡ library_line)
 EvalAnswer failed texts name NoMemory out = out ≡ memory_line
 EvalAnswer failed texts name status out = Found texts name (TextAnswer name status out)
 
--- ---- the sink
-
--- a sink's error cuts the output
-abbrev pub IsCut : Status → Type 0
-IsCut Sink = Unit {0}
-IsCut NoMemory = Unit {0}
-IsCut _ = ⊥
-
--- The whole text was put, and the status is the answer's; or the sink cut it, and a front of it was put.
-abbrev pub Ends : Option (List ℕ) → Option (List ℕ) → Status → Status → List ℕ → Type 0
-Ends old new answer status text = ((status ≡ answer) × Appends old new text) ⊎ (IsCut status × AppendsFront old new text)
-
--- the run ends by some answer that has P
-pub record Gives (P : Status → List ℕ → Type 0) (old new : Option (List ℕ)) (status : Status) : Type 0 where
-  pub answer : Status
-  pub text : List ℕ
-  pub may : P answer text
-  pub ends : Ends old new answer status text
-
 -- ---- commands, over a device
 
 module _ {D : Type 0} (seen : D → Option (List ℕ)) (moment : D → ℕ) (left : D → ℕ → List ℕ → Type 0) (faults : D → ℕ) (old new : D) where
@@ -101,6 +57,7 @@ module _ {D : Type 0} (seen : D → Option (List ℕ)) (moment : D → ℕ) (lef
   abbrev pub CommandRuns : Type 0 → Option Texts → Command → Option (List ℕ) → Option (List ℕ) → Status → Type 0
   CommandRuns failed texts (Eval sheet) before after status = Gives (λ answer out. EvalAnswer failed texts sheet answer out × IsUntouched moment left old new) before after status
   CommandRuns failed texts (Create dir outline) before after status = Gives (CreateRun failed texts outline) before after status
+  CommandRuns failed texts (Run dir script) before after status = ScriptRun seen moment left faults old new failed texts script before after status
 
   -- What some words make of a library, a device and a sink. `failed` is that the library failed in this call.
   abbrev pub Runs : Type 0 → Option Texts → List (List ℕ) → Option (List ℕ) → Option (List ℕ) → Status → Type 0

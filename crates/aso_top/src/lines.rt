@@ -1,9 +1,13 @@
 // Lines of the program.
 ghost use Rattle.std.specs.Prelude.{◌≡◌, IfOk};
-ghost use Rattle.aso_top.specs.Answers.{no_text_line};
+ghost use Rattle.aso_top.specs.Lines.{no_text_line};
 
 use aso_sheet::put_shown;
 use std::alloc::{AllocError, Global};
+
+pub const LIBRARY_FAULT: &[u8] = b"ERROR 0 304 library fault\n";
+
+pub const NO_MEMORY: &[u8] = b"ERROR 0 401 no memory\n";
 
 /// The line for a text that isn't there.
 pub fn no_text(alloc: Global, name: &str) -> Result<Vec<u8>, AllocError>

@@ -1,6 +1,7 @@
 use Rattle.std.proofs.Common.{◌≡◌, ◌∙◌, sym}
 use Rattle.aso_stage.specs.Store.{state_with}
 use Rattle.aso_stage.proofs.Covering.{covers_published, covers_doubt, covers_kept, images_during}
+use Rattle.aso_catalog.proofs.Views.{throughout_weaker}
 use Rattle.aso_stage.proofs.committing.publish_next.Goals as goal
 
 pub publish-requires : goal.publish-requires
@@ -24,3 +25,9 @@ returns-in-Err-clause-keeps g c = λ other h cov. covers_kept c.args.catalog.now
 pub returns-in-Err-clause-any_moment : goal.returns-in-Err-clause-any_moment
 returns-in-Err-clause-any_moment g c = λ h cov.
     images_during c.args.catalog.now c.publish.new.self c.args.body.now c.args.next (state_with c.args.next c.args.store.now.outline) c.requires.spelled c.requires.stands h cov c.publish.ensures.any_moment
+
+pub returns-in-Ok-clause-past : goal.returns-in-Ok-clause-past
+returns-in-Ok-clause-past g c = throughout_weaker c.args.catalog.now c.publish.new.self _ (λ x. Unit {0}) c.publish.ensures.any_moment (λ x e. tt)
+
+pub returns-in-Err-clause-past : goal.returns-in-Err-clause-past
+returns-in-Err-clause-past g c = throughout_weaker c.args.catalog.now c.publish.new.self _ (λ x. Unit {0}) c.publish.ensures.any_moment (λ x e. tt)

@@ -1,6 +1,8 @@
 use Rattle.std.proofs.Common.{◌≡◌, List, ℕ, inl, inr, refl, rules, subst}
 use Rattle.aso_num.specs.declared.status.Status.TheVariants.{NoMemory}
-use Rattle.aso_top.specs.Answers.{CreateEnds, Ends, memory_line}
+use Rattle.aso_top.specs.Lines.{memory_line}
+use Rattle.aso_top.specs.Ends.{Ends}
+use Rattle.aso_top.specs.Answers.{CreateEnds}
 use Rattle.aso_top.proofs.RunLemmas.{create_runs}
 use Rattle.aso_top.proofs.top.create_store.Goals as goal
 
