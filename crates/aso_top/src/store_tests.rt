@@ -41,9 +41,14 @@ pub fn device(alloc: Global, bytes: &[u8], fails: u64) -> Result<MemSlots, Fail>
     Ok(MemSlots::new(alloc, bytes, 200, vec![in alloc; fails]?)?)
 }
 
+// The bytes of a device on which no store was made.
+fn blank(alloc: Global) -> Result<Vec<u8>, AllocError> {
+    vec![in alloc; 0u8; 262_144]
+}
+
 // The bytes of a store without cells.
 pub fn created(alloc: Global) -> Result<Vec<u8>, Fail> {
-    let zeros = vec![in alloc; 0u8; 262_144]?;
+    let zeros = blank(alloc)?;
     let mut slots = device(alloc, &zeros, NEVER)?;
     let (status, _) = ran(alloc, &mut slots, "create", OUTLINE, NEVER)?;
     if status != Status::Done {
@@ -148,8 +153,9 @@ fn a_script_is_answered_line_by_line(rt: HostRuntime) -> Result<(), Fail> {
 #[test]
 fn what_keeps_a_script_from_being_run_has_one_line(rt: HostRuntime) -> Result<(), Fail> {
     let alloc = rt.alloc();
-    let zeros = vec![in alloc; 0u8; 262_144]?;
+    let zeros = blank(alloc)?;
     let bytes = created(alloc)?;
+    let short = vec![in alloc; 0u8; 7]?;
     // the bytes, a call of the device and of the library that fails, and the name of the script
     let cases = [
         (
@@ -169,7 +175,7 @@ fn what_keeps_a_script_from_being_run_has_one_line(rt: HostRuntime) -> Result<()
             "NOSTORE\n",
         ),
         (
-            &zeros[..7],
+            short.as_slice(),
             NEVER,
             NEVER,
             "t",
