@@ -1,4 +1,0 @@
-pub mod Csv
-pub mod Fields
-pub mod Records
-pub mod Gathering

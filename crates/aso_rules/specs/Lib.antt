@@ -1,4 +1,0 @@
-pub mod Json
-pub mod Written
-pub mod Rules
-pub mod Answers
