@@ -1,0 +1,11 @@
+pub mod Keys
+pub mod FormulaSteps
+pub mod InRange
+pub mod MemberLemmas
+pub mod Choices
+pub mod LastOf
+pub mod StoredLemmas
+pub mod ValueLemmas
+pub mod ListingLemmas
+pub mod BeenLemmas
+pub mod Examples

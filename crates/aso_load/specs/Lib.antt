@@ -1,0 +1,4 @@
+pub mod Csv
+pub mod Fields
+pub mod Records
+pub mod Gathering

@@ -1,0 +1,9 @@
+use Rattle.std.proofs.Common.{◌≡◌, drop}
+use Rattle.aso_rules.specs.Written.{column_of}
+use Rattle.serde_json.specs.View.{view}
+use Rattle.aso_rules.specs.Json.{all_found}
+use Rattle.aso_rules.proofs.Founds.{behind}
+use Rattle.aso_rules.proofs.columns.all_columns.Given as goal
+
+abbrev pub invariant-loop-value : goal.invariant-loop-value
+invariant-loop-value l = all_found (λ v. column_of (view v)) l.values ≡ behind l.found.items (all_found (λ v. column_of (view v)) (drop l.value-index l.values))
