@@ -2,7 +2,7 @@ use Rattle.std.proofs.Common.{◌≡◌, ◌∙◌, List, ℕ, Option, ap}
 use Rattle.aso_calc.specs.Stored.{given_at}
 use Rattle.aso_calc.specs.Values.{Outcome, ranks_of, value, value_within}
 use Rattle.aso_calc.proofs.ValueLemmas.{if_ok}
-use Rattle.aso_calc.proofs.values.outcome.Goals as goal
+use Rattle.aso_calc.proofs.unfolding.outcome.Goals as goal
 
 pub returns : goal.returns
 unfolding value
