@@ -12,7 +12,9 @@ use Rattle.aso_num.specs.declared.value.Val.{Val}
 use Rattle.aso_outline.specs.declared.draft.Draft.{Draft}
 use Rattle.aso_outline.specs.declared.draft.Tuple.{Tuple}
 use Rattle.aso_calc.specs.Keys.{key_of}
-use Rattle.aso_calc.specs.Known.{is_out}
+use Rattle.aso_calc.specs.declared.fault.CalcFault.{CalcFault}
+use Rattle.aso_calc.specs.declared.fault.CalcFault.TheVariants.{Range, NoMemory}
+use Rattle.aso_calc.specs.Known.{IsFault, IsFirstFault, IsRangeOf, is_out}
 use Rattle.aso_calc.specs.Needs.{with_attrs}
 use Rattle.aso_calc.specs.Values.{Outcome, Own, value_step, value_within}
 use Rattle.aso_calc.proofs.StoredLemmas.{same_key}
@@ -81,3 +83,12 @@ module _ (f : Tuple → Outcome) where
       ap (first p) (take_more ts i t low ∙ ap (λ (x : Tuple). take i ts ++ x ∷ []) at)
       ∙ (find-append p (take i ts) (t ∷ []) ∙ (ap (λ (r : Option Tuple). option_or r (first p (t ∷ []))) (none_out vs (take i ts) so_far) ∙ ap (λ (b : Bool). if b then Some t else None) out)) in
       ap (first p) (split_at ts i t low at) ∙ (find-append p (take (i + 1) ts) (drop (i + 1) ts) ∙ ap (λ (r : Option Tuple). option_or r (first p (drop (i + 1) ts))) upto)
+
+  is_fault : (r : Outcome) → IsRangeOf r → is_out r ≡ true
+  is_fault (Ok v) is = absurd is
+  is_fault (Err e) is = refl
+
+  -- a fault behind values is the first
+  pub first_fault : (vs : List Val) (ts : List Tuple) (i : ℕ) (t : Tuple) (fault : CalcFault) → i < length ts → get_or ts i t ≡ t → Are_values vs (take i ts) → IsFault t (f t) fault → IsFirstFault f ts fault
+  first_fault vs ts i t (Range tuple) low at so_far is = first_out vs ts i t low at so_far (is_fault (f t) is.1) ∙ ap Some (sym is.0)
+  first_fault vs ts i t (NoMemory e) low at so_far is = tt

@@ -136,14 +136,14 @@ module _ (o : Draft) (kept : broken o ≡ None) where
           by_formula None is = refl
           by_formula (Some z) is = absurd (true≢false (sym is))
 
+      and_false : (b : Bool) → (b && false) ≡ false
+      and_false true = refl
+      and_false false = refl
+
       no_formula : (b : Bool) → has (λ m. is_none m.formula) o (Inner e 0 i) ≡ true → is_childless o (Inner e 0 i) ≡ true → computed_as o (Inner e 0 i) ≡ false
       no_formula b none childless =
           ap (λ (c : Bool). c || (is_dynamic o (Inner e 0 i) && not (is_childless o (Inner e 0 i)))) (either_way (slice_get (tree (dim_at o e) 0) i) none)
           ∙ (ap (λ (c : Bool). is_dynamic o (Inner e 0 i) && not c) childless ∙ and_false (is_dynamic o (Inner e 0 i)))
-
-      and_false : (b : Bool) → (b && false) ≡ false
-      and_false true = refl
-      and_false false = refl
 
   -- what a label-only member needs is what it stands for
   in_number : (n : ℕ) (s : Seat) → slice_get (seats o) n ≡ Some s → number_in n s (place_of (resolve o s)) ≡ number_of o (resolve o s)
@@ -196,9 +196,9 @@ module _ (o : Draft) (kept : broken o ≡ None) where
         by_found (find o (name_at o r)) refl leaf
       where
         by_seat : (t : ℕ) (x : Option Seat) → slice_get (seats o) t ≡ x → unwrap_or (option_map (λ t. is_of_dim e t && is_data_leaf o t) x) false ≡ true → Stands o d n t
-        by_seat t None there leaf = absurd (true≢false (sym leaf))
-        by_seat t (Some x) there leaf =
-            leaf_stands d n t x there (ap (λ (k : ℕ). is_of_dim k x) (eqb-true d e dim) ∙ and_left (is_of_dim e x) _ leaf) (and_right (is_of_dim e x) _ leaf)
+        by_seat t None held leaf = absurd (true≢false (sym leaf))
+        by_seat t (Some x) held leaf =
+            leaf_stands d n t x held (ap (λ (k : ℕ). is_of_dim k x) (eqb-true d e dim) ∙ and_left (is_of_dim e x) _ leaf) (and_right (is_of_dim e x) _ leaf)
 
         by_found : (f : Option ℕ) → find o (name_at o r) ≡ f → is_leaf_name o e (name_at o r) ≡ true → Stands o d n (unwrap_or f n)
         by_found None none leaf =

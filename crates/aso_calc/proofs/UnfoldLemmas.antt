@@ -194,7 +194,7 @@ module _ (o : Draft) (own : Own) where
       IsLess new = Belongs o own new × (ranks_of o own new < ranks_of o own base)
 
       -- an atom's members in their places
-      module _ (d : ℕ) (low : d < length base) (names : Atom) (right : is_atom o d names ≡ true) (falls : Each (λ k. rank_of o k < rank_at o own (slice_index place d)) (operands_in o d names)) where
+      module _ (d : ℕ) (low : d < length base) (names : Atom) (fits : is_atom o d names ≡ true) (falls : Each (λ k. rank_of o k < rank_at o own (slice_index place d)) (operands_in o d names)) where
         abbrev new : List ℕ
         new = replaced o place names
 
@@ -209,14 +209,14 @@ module _ (o : Draft) (own : Own) where
           where
             by_dim : (k : ℕ) → operand_at o names e ≡ Some k → IsNamedIn o d e k → (e ≡ d) ⊎ (e ≡ d → ⊥) → rank_at o own k ≤ rank_at o own (slice_index place e)
             by_dim k is h (inl same) =
-                let less : rank_of o k < rank_at o own (slice_index place d) = own_low o d names right (rank_at o own (slice_index place d)) falls k (ap (operand_at o names) (sym same) ∙ is) in
+                let less : rank_of o k < rank_at o own (slice_index place d) = own_low o d names fits (rank_at o own (slice_index place d)) falls k (ap (operand_at o names) (sym same) ∙ is) in
                 omega (arith, rank_inside k h.0, less, ap (λ (f : ℕ). rank_at o own (slice_index place f)) same)
             by_dim k is h (inr other) = omega (arith, rank_inside k h.0, other_rank o kept d e k other h)
 
             by_operand : (k : Option ℕ) → operand_at o names e ≡ k → (is_in o own e (unwrap_or k (slice_index place e)) ≡ true) × (rank_at o own (unwrap_or k (slice_index place e)) ≤ rank_at o own (slice_index place e))
             by_operand None is = ((resolved_right e within).0, omega arith)
             by_operand (Some k) is =
-                let h = operand_named o d names right e k is in
+                let h = operand_named o d names fits e k is in
                 let at : slice_get (seats o) k ≡ Some (seat_of o k) = seat_there o k h.0 in (
                   in_outline e k (seat_of o k) at (sym (ap (λ (x : Option Seat). unwrap_or (option_map (is_of_dim e) x) false) at) ∙ h.1),
                   by_dim k is h (cases_eq e d),
@@ -224,9 +224,9 @@ module _ (o : Draft) (own : Own) where
 
         less_new : rank_at o own (slice_index new d) < rank_at o own (slice_index place d)
         less_new =
-            let found = own_operand o d names right in
-            let h = operand_named o d names right d found.0 found.1 in
-            let less : rank_of o found.0 < rank_at o own (slice_index place d) = own_low o d names right (rank_at o own (slice_index place d)) falls found.0 found.1 in
+            let found = own_operand o d names fits in
+            let h = operand_named o d names fits d found.0 found.1 in
+            let less : rank_of o found.0 < rank_at o own (slice_index place d) = own_low o d names fits (rank_at o own (slice_index place d)) falls found.0 found.1 in
             let same : slice_index new d ≡ found.0 = at_new d low ∙ ap (λ (x : Option ℕ). unwrap_or x (slice_index place d)) found.1 in
             omega (arith, ap (rank_at o own) same, rank_inside found.0 h.0, less)
 

@@ -71,5 +71,5 @@ value_within-returns-clause-known t c =
     let key : c.in_ok-key.key.items ≡ (c.args.ranks - 1) ∷ key_of place attrs = c.in_ok-key.ensures ∙ ap (λ (xs : List ℕ). (c.args.ranks - 1) ∷ key_of xs attrs) (c.as_slice-2.ensures.value ∙ c.in_ok-place.ensures) in
     let is : c.in_ok-value.value ≡ value_step o own (given_at c.args.stored.now attrs) (value_within (c.args.ranks - 1) o own (given_at c.args.stored.now attrs)) place =
     c.in_ok-value.ensures.value ∙ ap (value_step o own (given_at c.args.stored.now attrs) (value_within (c.args.ranks - 1) o own (given_at c.args.stored.now attrs))) (c.as_slice-4.ensures.value ∙ c.in_ok-place.ensures) in
-    known_more o own (given_at c.args.stored.now) (at c.value_step-value.new.known) (at c.add.new.self) (c.args.ranks - 1) place attrs c.in_ok-value.value c.in_ok-value.ensures.known is
-    (λ q. c.in_ok-add.ensures q ∙ ap (λ (k : List ℕ). if bytes_eq k q then Some c.in_ok-value.value else at c.value_step-value.new.known q) key)
+    known_more o own (given_at c.args.stored.now) (at c.value_step.new.known) (at c.add.new.self) (c.args.ranks - 1) place attrs c.in_ok-value.value c.in_ok-value.ensures.known is
+    (λ q. c.in_ok-add.ensures q ∙ ap (λ (k : List ℕ). if bytes_eq k q then Some c.in_ok-value.value else at c.value_step.new.known q) key)
