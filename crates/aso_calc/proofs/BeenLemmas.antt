@@ -1,17 +1,17 @@
 -- Where a search has been, one place more and one tuple more.
-use Rattle.std.proofs.Common.{◌≡◌, ◌∙◌, ℕ, zero, suc, ◌+◌, ◌-◌, ◌<◌, Bool, true, false, ◌||◌, List, [], ◌∷◌, ◌++◌, drop, map, take, length, get_or, Option, Some, None, refl, sym, ap, subst, arith, append-nil}
+use Rattle.std.proofs.Common.{◌≡◌, ◌∙◌, ℕ, zero, suc, ◌+◌, ◌-◌, ◌<◌, ◌≤◌, Bool, true, false, ◌||◌, List, [], ◌∷◌, ◌++◌, drop, map, take, length, get_or, Option, Some, None, refl, sym, ap, subst, arith, append-nil}
 use Rattle.std.specs.Prelude.{is_some, if◌then◌else◌, Result, Ok, Err, OnOk}
 use Rattle.std.specs.List.{flat_map, fold, list_all, list_any}
 use Rattle.std.specs.Cmp.Lexicographic.{bytes_decides, nat_list_eq_equiv}
 use Rattle.std.specs.Str.{bytes_eq}
 use Rattle.std.proofs.lemmas.Grind.{flat_map-append}
-use Rattle.std.proofs.lemmas.List.{take_more}
+use Rattle.std.proofs.lemmas.List.{take_all, take_more}
 use Rattle.std.proofs.lemmas.List.Folds.{list_any-append}
 use Rattle.std.proofs.lemmas.List.Sums.{fold-append}
 use Rattle.aso_outline.specs.declared.draft.Draft.{Draft}
 use Rattle.aso_outline.specs.declared.draft.Tuple.{Tuple}
 use Rattle.aso_calc.specs.Keys.{key_of}
-use Rattle.aso_calc.specs.Needs.{has, noted, reached, reached_step, reached_within, with_attrs}
+use Rattle.aso_calc.specs.Needs.{has, needed, noted, reached, reached_step, reached_within, with_attrs}
 use Rattle.aso_calc.specs.Values.{Own, resolved}
 use Rattle.aso_calc.proofs.ListingLemmas.{all_longer}
 use Rattle.aso_calc.proofs.StoredLemmas.{same_key}
@@ -61,6 +61,11 @@ module _ (o : Draft) (own : Own) where
       sym (ap (λ (us : List Tuple). fold noted [] (flat_map g us)) (take_more ts i x low ∙ ap (λ (y : Tuple). take i ts ++ y ∷ []) is)
       ∙ (ap (fold noted []) (flat_map-append g (take i ts) (x ∷ []) ∙ ap (λ (us : List Tuple). flat_map g (take i ts) ++ us) (append-nil (g x)))
       ∙ fold-append noted [] (flat_map g (take i ts)) (g x)))
+
+-- all that was found by the end is what is needed
+pub found_all : (o : Draft) (own : Own) (found ts : List Tuple) (i : ℕ) → length ts ≤ i → found ≡ fold noted [] (flat_map (reached o own) (take i ts)) → found ≡ needed o own ts
+unfolding needed
+found_all o own found ts i end is = is ∙ ap (λ (us : List Tuple). fold noted [] (flat_map (reached o own) us)) (take_all i ts end)
 
 split : (b : Bool) (o : Option Bool) → is_some (if b then Some true else o) ≡ (is_some o || (b || false))
 split true (Some x) = refl

@@ -8,4 +8,10 @@ pub mod StoredLemmas
 pub mod ValueLemmas
 pub mod ListingLemmas
 pub mod BeenLemmas
+pub mod KnownLemmas
+pub mod OnceLemmas
+pub mod RestLemmas
+pub mod TargetLemmas
+pub mod FallLemmas
+pub mod UnfoldLemmas
 pub mod Examples

@@ -1,5 +1,6 @@
 -- What a table of values knows.
-use Rattle.std.specs.Prelude.{◌≡◌, ℕ, List, ◌∷◌, Some, Ok, Err, slice_index, set}
+use Rattle.std.specs.Prelude.{◌≡◌, ℕ, Bool, true, false, List, ◌∷◌, Option, Some, Ok, Err, slice_index, set}
+use Rattle.std.specs.List.{find as first}
 use Rattle.aso_num.specs.declared.value.Val.{Val}
 use Rattle.aso_outline.specs.declared.draft.Draft.{Draft}
 use Rattle.aso_outline.specs.declared.draft.Expr.{Expr}
@@ -9,12 +10,14 @@ use Rattle.aso_outline.specs.Numbers.{seat_of}
 use Rattle.aso_calc.specs.declared.fault.CalcFault.{CalcFault}
 use Rattle.aso_calc.specs.declared.fault.CalcFault.TheVariants.{Range, NoMemory}
 use Rattle.aso_calc.specs.declared.table.Table.{Table}
+use Rattle.aso_calc.specs.Keys.{key_of}
 use Rattle.aso_calc.specs.Tables.{at}
 use Rattle.aso_calc.specs.Values.{Outcome, Own, children_at, children_value, formula_value, replaced, value_step, value_within}
 
--- under a bound on ranks and resolved coordinates stands the value there
-abbrev pub Knows : Draft → Own → (List ℕ → Val) → Table Outcome → Type 0
-Knows o own stored table = (ranks : ℕ) (base : List ℕ) (r : Outcome) → at table (ranks ∷ base) ≡ Some r → r ≡ value_step o own stored (value_within ranks o own stored) base
+-- under a bound on ranks, resolved coordinates and the attributes asked stands the value there
+abbrev pub Knows : Draft → Own → (List (Option ℕ) → List ℕ → Val) → Table Outcome → Type 0
+Knows o own stored table = (ranks : ℕ) (base : List ℕ) (attrs : List (Option ℕ)) (r : Outcome) → at table (ranks ∷ key_of base attrs) ≡ Some r
+    → r ≡ value_step o own (stored attrs) (value_within ranks o own (stored attrs)) base
 
 -- the parts of an unfolding
 abbrev pub by_atoms : Draft → (List ℕ → Outcome) → List ℕ → Expr → Outcome
@@ -36,3 +39,12 @@ IsRangeOf (Err e) = Unit {0}
 abbrev pub IsFault : Tuple → Outcome → CalcFault → Type 0
 IsFault t r (Range tuple) = (tuple ≡ t) × IsRangeOf r
 IsFault t r (NoMemory e) = Unit {0}
+
+-- of some tuples the first whose value is out of range
+abbrev pub is_out : Outcome → Bool
+is_out (Ok v) = false
+is_out (Err e) = true
+
+abbrev pub IsFirstFault : (Tuple → Outcome) → List Tuple → CalcFault → Type 0
+IsFirstFault f ts (Range tuple) = first (λ t. is_out (f t)) ts ≡ Some tuple
+IsFirstFault f ts (NoMemory e) = Unit {0}

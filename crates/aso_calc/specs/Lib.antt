@@ -6,3 +6,4 @@ pub mod Stored
 pub mod Known
 pub mod Needs
 pub mod Listed
+pub mod Belongs

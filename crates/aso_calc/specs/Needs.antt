@@ -1,8 +1,9 @@
 -- The stored tuples that the values of some tuples rest on.
-use Rattle.std.specs.Prelude.{ℕ, zero, suc, Bool, not, List, [], ◌∷◌, ◌++◌, map, Option, if◌then◌else◌, slice_index, unwrap_or, set}
+use Rattle.std.specs.Prelude.{◌≡◌, ◌≢◌, ◌<◌, ℕ, zero, suc, Bool, not, List, [], ◌∷◌, ◌++◌, map, Option, Some, if◌then◌else◌, slice_get, slice_index, unwrap_or, set}
 use Rattle.std.specs.Option.{option_map}
 use Rattle.std.specs.List.{filter, flat_map, fold, list_any}
 use Rattle.std.specs.Str.{bytes_eq}
+use Rattle.aso_num.specs.declared.value.Val.{Val}
 use Rattle.aso_outline.specs.declared.draft.Draft.{Draft}
 use Rattle.aso_outline.specs.declared.draft.Expr.{Expr}
 use Rattle.aso_outline.specs.declared.draft.Tuple.{Tuple}
@@ -11,7 +12,7 @@ use Rattle.aso_outline.specs.Marks.{op_of}
 use Rattle.aso_outline.specs.Numbers.{seat_of}
 use Rattle.aso_outline.specs.Rules.{is_skip}
 use Rattle.aso_calc.specs.Keys.{key_of}
-use Rattle.aso_calc.specs.Values.{Own, children_at, formula_at, ranks_of, replaced, resolved, unfolded}
+use Rattle.aso_calc.specs.Values.{Own, children_at, formula_at, ranks_of, replaced, resolved, unfolded, value}
 
 -- a child that isn't passed over
 abbrev pub is_counted : Draft → ℕ → Bool
@@ -52,3 +53,17 @@ needed o own ts = fold noted [] (flat_map (reached o own) ts)
 -- with the tuples at some coordinates behind them, each that they don't have
 abbrev pub all_noted : List (Option ℕ) → List Tuple → List (List ℕ) → List Tuple
 all_noted attrs all places = fold noted all (map (with_attrs attrs) places)
+
+-- no tuple stands twice
+abbrev pub AreDistinct : List Tuple → Type 0
+AreDistinct ts = (i j : ℕ) (t : Tuple) → i < j → slice_get ts i ≡ Some t → slice_get ts j ≢ Some t
+
+-- ---- what values rest on
+
+-- two kinds of stored values agree on some tuples
+abbrev pub Agree : (Tuple → Val) → (Tuple → Val) → List Tuple → Type 0
+Agree s u ts = (k : ℕ) (t : Tuple) → slice_get ts k ≡ Some t → s t ≡ u t
+
+-- the values of some tuples rest on these stored tuples alone
+abbrev pub Suffice : Draft → Own → List Tuple → List Tuple → Type 0
+Suffice o own found ts = (s u : Tuple → Val) → Agree s u found → (k : ℕ) (t : Tuple) → slice_get ts k ≡ Some t → value o own s t ≡ value o own u t

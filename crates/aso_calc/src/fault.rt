@@ -12,3 +12,14 @@ pub enum CalcFault {
     #[error("no memory")]
     NoMemory(NoMemory),
 }
+
+impl From<NoMemory> for CalcFault {
+    ghost use Rattle.std.specs.Prelude.{◌≡◌};
+    ghost use Rattle.aso_calc.specs.declared.fault.CalcFault.TheVariants.{NoMemory as OutOfMemory};
+
+    ghost from_gives = { λ e t. t ≡ OutOfMemory e };
+
+    fn from(e: NoMemory) -> CalcFault {
+        CalcFault::NoMemory(e)
+    }
+}

@@ -1,5 +1,5 @@
 // The lists of numbers under which tuples are found.
-ghost use Rattle.std.specs.Prelude.{◌≡◌, ◌++◌, ◌∷◌, [], map, length, IfOk, OnOk};
+ghost use Rattle.std.specs.Prelude.{◌≡◌, ◌++◌, ◌∷◌, map, IfOk, OnOk};
 ghost use Rattle.aso_calc.specs.Keys.{attr_code, key_of};
 
 use aso_memory::NoMemory;
@@ -15,7 +15,7 @@ fn attr_code(attr: Option<u32>) -> u64
 }
 
 /// Adds the members.
-pub fn push_members(members: &[u32], key: &mut Vec<u64>) -> Result<(), NoMemory>
+fn push_members(members: &[u32], key: &mut Vec<u64>) -> Result<(), NoMemory>
     ensures { OnOk result (key.new.items ≡ key.old.items ++ members.now) }
 {
     for member in members {
@@ -24,7 +24,7 @@ pub fn push_members(members: &[u32], key: &mut Vec<u64>) -> Result<(), NoMemory>
     Ok(())
 }
 
-pub fn push_attrs(attrs: &[Option<u32>], key: &mut Vec<u64>) -> Result<(), NoMemory>
+fn push_attrs(attrs: &[Option<u32>], key: &mut Vec<u64>) -> Result<(), NoMemory>
     ensures { OnOk result (key.new.items ≡ key.old.items ++ map attr_code attrs.now) }
 {
     for attr in attrs {
@@ -33,13 +33,35 @@ pub fn push_attrs(attrs: &[Option<u32>], key: &mut Vec<u64>) -> Result<(), NoMem
     Ok(())
 }
 
-/// How many members there are, the members, and the attributes asked.
+/// Adds how many members there are, the members, and the attributes asked.
+fn push_key(base: &[u32], attrs: &[Option<u32>], key: &mut Vec<u64>) -> Result<(), NoMemory>
+    ensures { OnOk result (key.new.items ≡ key.old.items ++ key_of base.now attrs.now) }
+{
+    key.push(base.len() as u64)?;
+    push_members(base, key)?;
+    push_attrs(attrs, key)
+}
+
+/// The list of numbers of a tuple.
 pub fn key_of(alloc: Global, base: &[u32], attrs: &[Option<u32>]) -> Result<Vec<u64>, NoMemory>
     ensures { IfOk result (λ k. k.items ≡ key_of base.now attrs.now) }
 {
     let mut key = Vec::new(alloc);
-    key.push(base.len() as u64)?;
-    push_members(base, &mut key)?;
-    push_attrs(attrs, &mut key)?;
+    push_key(base, attrs, &mut key)?;
+    Ok(key)
+}
+
+/// That of a tuple below a bound on ranks.
+pub fn step_key(
+    alloc: Global,
+    ranks: u32,
+    base: &[u32],
+    attrs: &[Option<u32>],
+) -> Result<Vec<u64>, NoMemory>
+    ensures { IfOk result (λ k. k.items ≡ ranks ∷ key_of base.now attrs.now) }
+{
+    let mut key = Vec::new(alloc);
+    key.push(u64::from(ranks))?;
+    push_key(base, attrs, &mut key)?;
     Ok(key)
 }

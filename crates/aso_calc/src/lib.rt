@@ -11,10 +11,15 @@ mod members;
 mod operands;
 mod stored;
 mod table;
-mod values;
+mod unfolding;
 mod visits;
 
 pub use fault::CalcFault;
 pub use stored::StoredValues;
-pub use values::value;
+pub use unfolding::{value, values};
 pub use visits::needs;
+
+#[cfg(test)]
+mod test_outlines;
+#[cfg(test)]
+mod value_tests;

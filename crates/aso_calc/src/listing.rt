@@ -1,12 +1,10 @@
 // The stored tuples that were found, each once, and where the search has been.
-ghost use Rattle.std.specs.Prelude.{◌≡◌, [], ◌∷◌, true, is_some, map, IfOk, OnOk};
+ghost use Rattle.std.specs.Prelude.{◌≡◌, true, map, IfOk, OnOk};
 ghost use Rattle.std.specs.List.{list_all};
-ghost use Rattle.aso_calc.specs.Keys.{key_of};
 ghost use Rattle.aso_calc.specs.Listed.{Lists};
 ghost use Rattle.aso_calc.specs.Needs.{has, noted, reached_step, reached_within, with_attrs};
-ghost use Rattle.aso_calc.specs.Tables.{at};
 
-use crate::key::{key_of, push_attrs, push_members};
+use crate::key::{key_of, step_key};
 use crate::table::Table;
 use aso_memory::NoMemory;
 use aso_num::List;
@@ -32,23 +30,6 @@ fn tuple_of(alloc: Global, base: &[u32], attrs: &[Option<u32>]) -> Result<Tuple,
         base: List::of(members),
         attrs: List::of(asked),
     })
-}
-
-/// The bound on ranks, and the key of the tuple.
-fn visit_key(
-    alloc: Global,
-    ranks: u32,
-    base: &[u32],
-    attrs: &[Option<u32>],
-) -> Result<Vec<u64>, NoMemory>
-    ensures { IfOk result (λ k. k.items ≡ ranks ∷ key_of base.now attrs.now) }
-{
-    let mut key = Vec::new(alloc);
-    key.push(u64::from(ranks))?;
-    key.push(base.len() as u64)?;
-    push_members(base, &mut key)?;
-    push_attrs(attrs, &mut key)?;
-    Ok(key)
 }
 
 impl Listing {
@@ -110,7 +91,7 @@ pub fn has_been(
     requires lists { Lists _outline.now _extra.now.members.items listing.now }
     ensures { IfOk result (λ b. b ≡ true → list_all (has listing.now.found.items) (map (with_attrs attrs.now) (reached_step _outline.now _extra.now.members.items (reached_within ranks _outline.now _extra.now.members.items) base.now)) ≡ true) }
 {
-    let key = visit_key(alloc, ranks, base, attrs)?;
+    let key = step_key(alloc, ranks, base, attrs)?;
     Ok(listing.visited.find(key.as_slice()).is_some())
 }
 
@@ -129,7 +110,7 @@ pub fn mark(
     ensures lists { OnOk result (Lists _outline.now _extra.now.members.items listing.new) }
     ensures found { listing.new.found.items ≡ listing.old.found.items }
 {
-    let key = visit_key(alloc, ranks, base, attrs)?;
+    let key = step_key(alloc, ranks, base, attrs)?;
     listing.visited.add(key, true)?;
     Ok(())
 }

@@ -19,9 +19,10 @@ pub struct StoredValues {
 }
 
 impl StoredValues {
-    ghost use Rattle.std.specs.Prelude.{◌≡◌, ◌≢◌, ◌<◌, ℕ, length, Some, None, slice_get, IfOk};
+    ghost use Rattle.std.specs.Prelude.{◌≡◌, ℕ, length, Some, None, slice_get, IfOk};
     ghost use Rattle.aso_num.specs.declared.value.Val.{Val as Value};
     ghost use Rattle.aso_outline.specs.declared.draft.Tuple.{Tuple as Coordinates};
+    ghost use Rattle.aso_calc.specs.Needs.{AreDistinct};
     ghost use Rattle.aso_calc.specs.Stored.{given};
 
     /// The values of these tuples, in their order. No tuple stands twice among them.
@@ -31,7 +32,7 @@ impl StoredValues {
         values: Vec<Val>,
     ) -> Result<StoredValues, NoMemory>
         requires each { length tuples.items ≡ length values.items }
-        requires once { (i j : ℕ) (t : Coordinates) → i < j → slice_get tuples.items i ≡ Some t → slice_get tuples.items j ≢ Some t }
+        requires once { AreDistinct tuples.items }
         ensures { IfOk result (λ s. (k : ℕ) (t : Coordinates) (v : Value) → slice_get tuples.items k ≡ Some t → slice_get values.items k ≡ Some v → given s t ≡ v) }
     {
         let mut table = Table::new(alloc);

@@ -5,14 +5,14 @@ ghost use Rattle.aso_outline.specs.declared.draft.Tuple.{Tuple as Coordinates};
 ghost use Rattle.aso_outline.specs.Atoms.{atoms};
 ghost use Rattle.aso_outline.specs.Members.{seats};
 ghost use Rattle.aso_calc.specs.Listed.{Lists};
-ghost use Rattle.aso_calc.specs.Needs.{all_noted, is_counted, needed, noted, operands, reached, reached_step, reached_within};
+ghost use Rattle.aso_calc.specs.Needs.{AreDistinct, Suffice, all_noted, is_counted, needed, noted, operands, reached, reached_step, reached_within};
 ghost use Rattle.aso_calc.specs.Values.{children_at, replaced};
 
 use crate::choice::unfolded;
 use crate::listing::{Listing, has_been, mark, note};
 use crate::members::{children_at, formula_at};
 use crate::operands::{replaced, resolved, with_child};
-use crate::values::ranks_of;
+use crate::unfolding::ranks_of;
 use aso_memory::NoMemory;
 use aso_outline::{Expr, Extra, Op, Outline, Tuple, atoms_of};
 use std::alloc::Global;
@@ -232,7 +232,7 @@ fn visit_tuple(
 }
 
 /// The stored tuples that the values of some tuples rest on, each once, in the order in which they are first reached. Each
-/// coordinate of theirs is resolved. Each tuple of an unfolding is visited once.
+/// coordinate of theirs is resolved. The values rest on no other stored tuple. Each tuple of an unfolding is visited once.
 #[tactic(auto, unfolding(crate::specs::Needs::needed))]
 pub fn needs(
     alloc: Global,
@@ -241,7 +241,9 @@ pub fn needs(
     tuples: &[Tuple],
 ) -> Result<Vec<Tuple>, NoMemory>
     requires { (k : ℕ) (t : Coordinates) → slice_get tuples.now k ≡ Some t → length t.base ≡ length outline.now.dims }
-    ensures { IfOk result (λ v. v.items ≡ needed outline.now extra.now.members.items tuples.now) }
+    ensures found { IfOk result (λ v. v.items ≡ needed outline.now extra.now.members.items tuples.now) }
+    ensures once { IfOk result (λ v. AreDistinct v.items) }
+    ensures suffice { IfOk result (λ v. Suffice outline.now extra.now.members.items v.items tuples.now) }
 {
     let mut listing = Listing::new(alloc, outline, extra);
     for tuple in tuples {

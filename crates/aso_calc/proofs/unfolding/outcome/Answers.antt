@@ -2,11 +2,11 @@ use Rattle.std.proofs.Common.{◌≡◌, ◌∙◌, List, ℕ, Option, ap}
 use Rattle.aso_calc.specs.Stored.{given_at}
 use Rattle.aso_calc.specs.Values.{Outcome, ranks_of, value, value_within}
 use Rattle.aso_calc.proofs.ValueLemmas.{if_ok}
-use Rattle.aso_calc.proofs.values.outcome.Goals as goal
+use Rattle.aso_calc.proofs.unfolding.outcome.Goals as goal
 
-pub returns : goal.returns
+pub returns-clause-value : goal.returns-clause-value
 unfolding value
-returns c =
+returns-clause-value c =
     let o = c.args.outline.now in
     let own = c.args.extra.now.members.items in
     let s = c.args.stored.now in

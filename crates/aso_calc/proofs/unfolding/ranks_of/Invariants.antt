@@ -1,6 +1,6 @@
 use Rattle.std.proofs.Common.{◌≡◌, ◌≤◌, ◌*◌, take}
 use Rattle.aso_calc.specs.Values.{ranks_of}
-use Rattle.aso_calc.proofs.values.ranks_of.Given as goal
+use Rattle.aso_calc.proofs.unfolding.ranks_of.Given as goal
 
 abbrev pub invariant-loop-member : goal.invariant-loop-member
 invariant-loop-member l = record {

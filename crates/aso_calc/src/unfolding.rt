@@ -1,11 +1,14 @@
 // The value of a tuple by unfolding. What was worked out once is known from then on.
-ghost use Rattle.std.specs.Prelude.{◌≡◌, ◌<◌, ◌∷◌, ◌≤◌, Ok, IfOk, IfErr, OnOk, length, map, set};
+ghost use Rattle.std.specs.Prelude.{◌≡◌, ◌<◌, ◌∷◌, ◌++◌, [], ◌≤◌, ℕ, Some, Ok, IfOk, IfErr, OnOk, length, map, set, slice_get};
 ghost use Rattle.aso_num.specs.Numbers.{IsInRange};
+ghost use Rattle.aso_outline.specs.declared.draft.Tuple.{Tuple as Coordinates};
 ghost use Rattle.aso_outline.specs.Atoms.{atoms};
+ghost use Rattle.aso_outline.specs.Extend.{AreOwn};
 ghost use Rattle.aso_outline.specs.Marks.{op_of};
 ghost use Rattle.aso_outline.specs.Members.{seats};
 ghost use Rattle.aso_outline.specs.Numbers.{seat_of};
-ghost use Rattle.aso_calc.specs.Known.{IsAt, IsFault, Knows, by_atoms, by_children};
+ghost use Rattle.aso_calc.specs.Belongs.{Unfolds};
+ghost use Rattle.aso_calc.specs.Known.{IsAt, IsFault, IsFirstFault, Knows, by_atoms, by_children};
 ghost use Rattle.aso_calc.specs.Stored.{given, given_at};
 ghost use Rattle.aso_calc.specs.Values.{applied, ranks_of, replaced, unfolding_of, value, value_step, value_within};
 
@@ -13,7 +16,7 @@ use crate::arithmetic::{Outcome, applied};
 use crate::choice::unfolded;
 use crate::fault::CalcFault;
 use crate::formula::{checked, evaluate};
-use crate::key::push_members;
+use crate::key::step_key;
 use crate::members::{children_at, formula_at, rank_at};
 use crate::operands::{replaced, resolved, with_child};
 use crate::stored::{StoredValues, stored_value};
@@ -22,16 +25,6 @@ use aso_memory::NoMemory;
 use aso_num::{List, Val};
 use aso_outline::{Expr, Extra, Op, Outline, Tuple, atoms_of};
 use std::alloc::Global;
-
-/// The list of numbers under which a value is known.
-fn place_key(alloc: Global, ranks: u32, base: &[u32]) -> Result<Vec<u64>, NoMemory>
-    ensures { IfOk result (λ k. k.items ≡ ranks ∷ base.now) }
-{
-    let mut key = Vec::new(alloc);
-    key.push(u64::from(ranks))?;
-    push_members(base, &mut key)?;
-    Ok(key)
-}
 
 /// The values of the atoms of a formula, each with its members in place of the coordinates.
 #[cycle(values)]
@@ -46,8 +39,8 @@ fn atom_values(
     base: &[u32],
     formula: &Expr,
 ) -> Result<Vec<Outcome>, NoMemory>
-    requires known { Knows outline.now extra.now.members.items (given_at stored.now attrs.now) known.old }
-    ensures known { OnOk result (Knows outline.now extra.now.members.items (given_at stored.now attrs.now) known.new) }
+    requires known { Knows outline.now extra.now.members.items (given_at stored.now) known.old }
+    ensures known { OnOk result (Knows outline.now extra.now.members.items (given_at stored.now) known.new) }
     ensures values { IfOk result (λ v. v.items ≡ map (λ names. value_within ranks outline.now extra.now.members.items (given_at stored.now attrs.now) (replaced outline.now base.now names)) (atoms formula.now)) }
 {
     let all = atoms_of(alloc, formula)?;
@@ -82,8 +75,8 @@ fn by_formula(
     base: &[u32],
     formula: &Expr,
 ) -> Result<Outcome, NoMemory>
-    requires known { Knows outline.now extra.now.members.items (given_at stored.now attrs.now) known.old }
-    ensures known { OnOk result (Knows outline.now extra.now.members.items (given_at stored.now attrs.now) known.new) }
+    requires known { Knows outline.now extra.now.members.items (given_at stored.now) known.old }
+    ensures known { OnOk result (Knows outline.now extra.now.members.items (given_at stored.now) known.new) }
     ensures value { IfOk result (λ r. r ≡ by_atoms outline.now (value_within ranks outline.now extra.now.members.items (given_at stored.now attrs.now)) base.now formula.now) }
 {
     let values = atom_values(
@@ -108,11 +101,11 @@ fn with_value(
     child: u32,
     total: Outcome,
 ) -> Result<Outcome, NoMemory>
-    requires known { Knows outline.now extra.now.members.items (given_at stored.now attrs.now) known.old }
+    requires known { Knows outline.now extra.now.members.items (given_at stored.now) known.old }
     requires within { at < length base.now }
     requires child { child < length (seats outline.now) }
     requires range { IfOk total IsInRange }
-    ensures known { OnOk result (Knows outline.now extra.now.members.items (given_at stored.now attrs.now) known.new) }
+    ensures known { OnOk result (Knows outline.now extra.now.members.items (given_at stored.now) known.new) }
     ensures value { IfOk result (λ r. r ≡ applied (op_of outline.now (seat_of outline.now child)) total (value_within ranks outline.now extra.now.members.items (given_at stored.now attrs.now) (set base.now at child))) }
     ensures range { IfOk result (λ r. IfOk r IsInRange) }
 {
@@ -147,9 +140,9 @@ fn by_children(
     base: &[u32],
     at: usize,
 ) -> Result<Outcome, NoMemory>
-    requires known { Knows outline.now extra.now.members.items (given_at stored.now attrs.now) known.old }
+    requires known { Knows outline.now extra.now.members.items (given_at stored.now) known.old }
     requires within { at < length base.now }
-    ensures known { OnOk result (Knows outline.now extra.now.members.items (given_at stored.now attrs.now) known.new) }
+    ensures known { OnOk result (Knows outline.now extra.now.members.items (given_at stored.now) known.new) }
     ensures value { IfOk result (λ r. r ≡ by_children outline.now (value_within ranks outline.now extra.now.members.items (given_at stored.now attrs.now)) base.now at) }
 {
     let children = children_at(alloc, outline, base[at])?;
@@ -175,9 +168,9 @@ fn unfold(
     base: &[u32],
     at: usize,
 ) -> Result<Outcome, NoMemory>
-    requires known { Knows outline.now extra.now.members.items (given_at stored.now attrs.now) known.old }
+    requires known { Knows outline.now extra.now.members.items (given_at stored.now) known.old }
     requires within { at < length base.now }
-    ensures known { OnOk result (Knows outline.now extra.now.members.items (given_at stored.now attrs.now) known.new) }
+    ensures known { OnOk result (Knows outline.now extra.now.members.items (given_at stored.now) known.new) }
     ensures value { IfOk result (λ r. r ≡ unfolding_of outline.now extra.now.members.items (value_within ranks outline.now extra.now.members.items (given_at stored.now attrs.now)) base.now at) }
 {
     match formula_at(outline, extra, base[at]) {
@@ -200,8 +193,8 @@ fn value_step(
     ranks: u32,
     base: &[u32],
 ) -> Result<Outcome, NoMemory>
-    requires known { Knows outline.now extra.now.members.items (given_at stored.now attrs.now) known.old }
-    ensures known { OnOk result (Knows outline.now extra.now.members.items (given_at stored.now attrs.now) known.new) }
+    requires known { Knows outline.now extra.now.members.items (given_at stored.now) known.old }
+    ensures known { OnOk result (Knows outline.now extra.now.members.items (given_at stored.now) known.new) }
     ensures value { IfOk result (λ r. r ≡ value_step outline.now extra.now.members.items (given_at stored.now attrs.now) (value_within ranks outline.now extra.now.members.items (given_at stored.now attrs.now)) base.now) }
 {
     match unfolded(outline, extra, base) {
@@ -222,15 +215,15 @@ fn value_within(
     ranks: u32,
     base: &[u32],
 ) -> Result<Outcome, NoMemory>
-    requires known { Knows outline.now extra.now.members.items (given_at stored.now attrs.now) known.old }
-    ensures known { OnOk result (Knows outline.now extra.now.members.items (given_at stored.now attrs.now) known.new) }
+    requires known { Knows outline.now extra.now.members.items (given_at stored.now) known.old }
+    ensures known { OnOk result (Knows outline.now extra.now.members.items (given_at stored.now) known.new) }
     ensures value { IfOk result (λ r. r ≡ value_within ranks outline.now extra.now.members.items (given_at stored.now attrs.now) base.now) }
 {
     let place = resolved(alloc, outline, base)?;
     if ranks == 0 {
         return stored_value(alloc, stored, place.as_slice(), attrs);
     }
-    let key = place_key(alloc, ranks - 1, place.as_slice())?;
+    let key = step_key(alloc, ranks - 1, place.as_slice(), attrs)?;
     if let Some(value) = known.find(key.as_slice()) {
         return Ok(value);
     }
@@ -272,12 +265,14 @@ fn outcome(
     extra: &Extra,
     tuple: &Tuple,
     stored: &StoredValues,
+    known: &mut Table<Outcome>,
 ) -> Result<Outcome, NoMemory>
-    requires { length tuple.now.base ≡ length outline.now.dims }
-    ensures { IfOk result (λ r. r ≡ value outline.now extra.now.members.items (given stored.now) tuple.now) }
+    requires known { Knows outline.now extra.now.members.items (given_at stored.now) known.old }
+    requires long { length tuple.now.base ≡ length outline.now.dims }
+    ensures known { OnOk result (Knows outline.now extra.now.members.items (given_at stored.now) known.new) }
+    ensures value { IfOk result (λ r. r ≡ value outline.now extra.now.members.items (given stored.now) tuple.now) }
 {
     outline.keeps_counts();
-    let mut known = Table::new(alloc);
     let base = tuple.base.items();
     let ranks = ranks_of(alloc, outline, extra, base)?;
     value_within(
@@ -286,7 +281,7 @@ fn outcome(
         extra,
         stored,
         tuple.attrs.items(),
-        &mut known,
+        known,
         ranks,
         base,
     )
@@ -315,8 +310,38 @@ fn fault_at(alloc: Global, tuple: &Tuple) -> CalcFault
     }
 }
 
+/// The value, or the fault at the tuple where it is out of range.
+fn value_or_fault(
+    alloc: Global,
+    outline: &Outline,
+    extra: &Extra,
+    tuple: &Tuple,
+    stored: &StoredValues,
+    known: &mut Table<Outcome>,
+) -> Result<Val, CalcFault>
+    requires known { Knows outline.now extra.now.members.items (given_at stored.now) known.old }
+    requires long { length tuple.now.base ≡ length outline.now.dims }
+    ensures known { OnOk result (Knows outline.now extra.now.members.items (given_at stored.now) known.new) }
+    ensures found { IfOk result (λ v. value outline.now extra.now.members.items (given stored.now) tuple.now ≡ Ok v) }
+    ensures range { IfErr result (IsFault tuple.now (value outline.now extra.now.members.items (given stored.now) tuple.now)) }
+{
+    match outcome(alloc, outline, extra, tuple, stored, known) {
+        Ok(Ok(value)) => Ok(value),
+        Ok(Err(_)) => Err(fault_at(alloc, tuple)),
+        Err(e) => Err(CalcFault::NoMemory(e)),
+    }
+}
+
+fn push_value(value: Val, all: &mut Vec<Val>) -> Result<(), NoMemory>
+    ensures { OnOk result (all.new.items ≡ all.old.items ++ value ∷ []) }
+{
+    all.push(value)?;
+    Ok(())
+}
+
 /// The value of a tuple, given the values of the stored tuples that it rests on. It is `Range`, with the tuple, where the value
-/// is out of range. Each coordinate is resolved and each tuple of an unfolding is worked out once.
+/// is out of range. Each coordinate is resolved and each tuple of an unfolding is worked out once. The value of coordinates that
+/// belong is the stored one where none is computed, else that of its unfolding by values of the same kind.
 pub fn value(
     alloc: Global,
     outline: &Outline,
@@ -327,10 +352,33 @@ pub fn value(
     requires { length tuple.now.base ≡ length outline.now.dims }
     ensures found { IfOk result (λ v. value outline.now extra.now.members.items (given stored.now) tuple.now ≡ Ok v) }
     ensures range { IfErr result (IsFault tuple.now (value outline.now extra.now.members.items (given stored.now) tuple.now)) }
+    ensures unfolds { AreOwn outline.now extra.now.members.items → Unfolds outline.now extra.now.members.items (given_at stored.now) }
 {
-    match outcome(alloc, outline, extra, tuple, stored) {
-        Ok(Ok(value)) => Ok(value),
-        Ok(Err(_)) => Err(fault_at(alloc, tuple)),
-        Err(e) => Err(CalcFault::NoMemory(e)),
+    outline.keeps();
+    let mut known = Table::new(alloc);
+    value_or_fault(alloc, outline, extra, tuple, stored, &mut known)
+}
+
+/// The values of some tuples, as of the cells of a grid, in their order. `Range` has the first tuple whose value is out of range.
+/// What was worked out for one tuple is known to those behind it.
+pub fn values(
+    alloc: Global,
+    outline: &Outline,
+    extra: &Extra,
+    tuples: &[Tuple],
+    stored: &StoredValues,
+) -> Result<Vec<Val>, CalcFault>
+    requires { (k : ℕ) (t : Coordinates) → slice_get tuples.now k ≡ Some t → length t.base ≡ length outline.now.dims }
+    ensures found { IfOk result (λ v. map (λ x. Ok x) v.items ≡ map (value outline.now extra.now.members.items (given stored.now)) tuples.now) }
+    ensures range { IfErr result (IsFirstFault (value outline.now extra.now.members.items (given stored.now)) tuples.now) }
+{
+    let mut known = Table::new(alloc);
+    let mut all = Vec::new(alloc);
+    for tuple in tuples {
+        match value_or_fault(alloc, outline, extra, tuple, stored, &mut known) {
+            Ok(value) => push_value(value, &mut all)?,
+            Err(fault) => return Err(fault),
+        }
     }
+    Ok(all)
 }

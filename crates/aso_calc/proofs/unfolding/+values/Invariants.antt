@@ -7,17 +7,17 @@ use Rattle.aso_outline.specs.Numbers.{seat_of}
 use Rattle.aso_calc.specs.Known.{Knows}
 use Rattle.aso_calc.specs.Stored.{given_at}
 use Rattle.aso_calc.specs.Values.{children_value, replaced, value_within}
-use Rattle.aso_calc.proofs.values.+values.Given as goal
+use Rattle.aso_calc.proofs.unfolding.+values.Given as goal
 
 abbrev pub invariant-atom_values-loop-names : goal.invariant-atom_values-loop-names
 invariant-atom_values-loop-names l = record {
-  known : Knows l.outline l.extra.members.items (given_at l.stored l.attrs) l.known;
+  known : Knows l.outline l.extra.members.items (given_at l.stored) l.known;
   values : l.values.items ≡ map (λ names. value_within l.ranks l.outline l.extra.members.items (given_at l.stored l.attrs) (replaced l.outline l.base names)) (map (λ a. a.now) (take l.names-index l.names-items));
 }
 
 abbrev pub invariant-by_children-loop-child : goal.invariant-by_children-loop-child
 invariant-by_children-loop-child l = record {
-  known : Knows l.outline l.extra.members.items (given_at l.stored l.attrs) l.known;
+  known : Knows l.outline l.extra.members.items (given_at l.stored) l.known;
   total : l.total ≡ children_value (λ k. op_of l.outline (seat_of l.outline k)) (λ k. value_within l.ranks l.outline l.extra.members.items (given_at l.stored l.attrs) (set l.base l.at k)) (take l.child-index l.child-items);
   range : IfOk l.total IsInRange;
 }
