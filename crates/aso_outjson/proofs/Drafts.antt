@@ -1,6 +1,7 @@
 -- How far the reading of the formulas has come.
 use Rattle.std.proofs.Common.{◌≡◌, ◌∙◌, ℕ, zero, suc, ◌+◌, ◌-◌, ◌^◌, ◌<◌, ◌≤◌, min, arith, Bool, true, false, List, [], ◌∷◌, ◌++◌, append_assoc, append-nil, length, length-append, flat_map, Option, Some, None, if◌then◌else◌, nat_lt, refl, sym, ap, subst}
 use Rattle.std.specs.List.{AllByRecursion, AllZip}
+use Rattle.std.proofs.lemmas.List.{nil_from_length}
 use Rattle.aso_outline.specs.Members.{Name}
 use Rattle.aso_outline.specs.declared.draft.Draft.{Draft}
 use Rattle.aso_outline.specs.declared.draft.DraftAttr.{DraftAttr}
@@ -121,10 +122,13 @@ module _ {W M : Type 0} (R : W → M → Type 0) (texts : W → List (Option Nam
   pub so_far_fault : (w : W) (all rest : List W) (done : List M) (from number : ℕ) (f : JsonFault) → IsSoFar R texts all (w ∷ rest) done from number → IsFault (texts w) number f → IsFault (flat_map texts all) from f
   so_far_fault w all rest done from number f h is = h.fault f (earlier (texts w) (flat_map texts rest) number f is)
 
-  pub so_far_made : (all : List W) (done : List M) (from number : ℕ) → IsSoFar R texts all [] done from number → AllZip R all done
-  so_far_made all done from number h = subst (λ l. AllZip R all l) (append-nil done) (h.made [] tt)
+  pub so_far_made : (all rest : List W) (done : List M) (from number : ℕ) → length rest ≡ 0 → IsSoFar R texts all rest done from number → AllZip R all done
+  so_far_made all rest done from number none h =
+      let h = subst (λ ws. IsSoFar R texts all ws done from number) (nil_from_length rest none) h in
+      subst (λ l. AllZip R all l) (append-nil done) (h.made [] tt)
 
-  pub so_far_counted : (all : List W) (done : List M) (from number : ℕ) → IsSoFar R texts all [] done from number → IsFurther from (length (flat_map texts all)) number
-  so_far_counted all done from number h =
+  pub so_far_counted : (all rest : List W) (done : List M) (from number : ℕ) → length rest ≡ 0 → IsSoFar R texts all rest done from number → IsFurther from (length (flat_map texts all)) number
+  so_far_counted all rest done from number none h =
+      let h = subst (λ ws. IsSoFar R texts all ws done from number) (nil_from_length rest none) h in
       let same : number ≡ number + 0 = omega arith in
       ap capped same ∙ h.counted

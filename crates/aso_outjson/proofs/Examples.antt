@@ -3,7 +3,8 @@ use Rattle.std.proofs.Common.{◌≡◌, ℕ, List, [], ◌∷◌, true, map, fl
 use Rattle.serde_json.specs.Data.{Data, null, boolean, number, string, array, object, unsigned, Members, no_members, member}
 use Rattle.serde_json.specs.View.{items_of}
 use Rattle.serde_json.proofs.OnLiterals.{serde_json_on_literals}
-use Rattle.aso_outjson.specs.Fields.{Found}
+use Rattle.std.specs.Fmt.{decimal}
+use Rattle.aso_outjson.specs.Fields.{Found, Path}
 use Rattle.aso_outjson.specs.Formulas.{all_formulas}
 use Rattle.aso_outjson.specs.Members.{member_in, tree_at, tree_in}
 use Rattle.aso_outjson.specs.Objects.{attr_in, dim_in, hier_in, outline_in}
@@ -91,9 +92,9 @@ members_have_23_numbers = refl
 
 -- ---- first faults
 
-abbrev fault : Found Written → List ℕ
-fault (Ok w) = codes "none"
-fault (Err path) = pointer path
+abbrev fault : Found Written → Path
+fault (Ok w) = codes "none" ∷ []
+fault (Err path) = path
 
 abbrev year : List Data → Data
 year more = dim (codes "Year") (stored (node (codes "Year") more) ∷ [])
@@ -108,11 +109,16 @@ first_faults : map (λ d. fault (outline_in d)) (
     ∷ outline [] (member (codes "~") null no_members) ∷ [])
     ≡ (
     []
-    ∷ codes "/app"
-    ∷ codes "/dimensions/1/hierarchies"
-    ∷ codes "/dimensions/1/name"
-    ∷ codes "/dimensions/0/hierarchies/0/root/children/1/solve"
-    ∷ codes "/dimensions/0/hierarchies/0/root/children/1/a~1b"
-    ∷ codes "/~0" ∷ [])
+    ∷ (codes "app" ∷ [])
+    ∷ (codes "dimensions" ∷ decimal 1 ∷ codes "hierarchies" ∷ [])
+    ∷ (codes "dimensions" ∷ decimal 1 ∷ codes "name" ∷ [])
+    ∷ (codes "dimensions" ∷ decimal 0 ∷ codes "hierarchies" ∷ decimal 0 ∷ codes "root" ∷ codes "children" ∷ decimal 1 ∷ codes "solve" ∷ [])
+    ∷ (codes "dimensions" ∷ decimal 0 ∷ codes "hierarchies" ∷ decimal 0 ∷ codes "root" ∷ codes "children" ∷ decimal 1 ∷ codes "a/b" ∷ [])
+    ∷ (codes "~" ∷ []) ∷ [])
 unfolding serde_json_on_literals outline_in attr_in dim_in hier_in tree_in tree_at member_in
 first_faults = refl
+
+-- ---- pointers
+
+pointers_escape : map pointer ([] ∷ (codes "app" ∷ []) ∷ (codes "root" ∷ codes "a/b" ∷ []) ∷ (codes "~" ∷ []) ∷ (codes "~1" ∷ []) ∷ []) ≡ [] ∷ codes "/app" ∷ codes "/root/a~1b" ∷ codes "/~0" ∷ codes "/~01" ∷ []
+pointers_escape = refl

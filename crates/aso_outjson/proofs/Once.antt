@@ -34,7 +34,7 @@ formula_once (Some text) None f h k = absurd h
 formula_once (Some text) (Some e) None h k = absurd k
 formula_once (Some text) (Some e) (Some f) h k = ap (λ x. Some x) (one_formula text e f h k)
 
-member_with : WrittenMember → Option Expr → DraftMember
+abbrev member_with : WrittenMember → Option Expr → DraftMember
 member_with w e = record { name = w.name; parent = w.parent; shared = w.shared; label_only = w.label_only; op = w.op; solve = w.solve; formula = e; carries = w.carries }
 
 member_once : (w : WrittenMember) (m n : DraftMember) → IsMember w m → IsMember w n → m ≡ n
@@ -85,6 +85,9 @@ first_none (None ∷ ts) zero byte spelled is = is
 first_none (Some t ∷ ts) zero byte spelled is = no_fault t byte spelled.0.0 is spelled.0.1
 first_none (t ∷ ts) (suc n) byte spelled is = first_none ts n byte spelled.1 is.1
 
+none_some : (x : ℕ × ℕ) → None ≡ Some x → ⊥
+none_some x e = cc
+
 pub only : (text : List ℕ) (o : Draft) (result : Result Draft JsonFault) → IfOk result (IsOutline text) → IfErr result (IsRefusal text) → IsOutline text o → Reads result o
 only text o (Ok p) found refused is = writes_once text p o found.0 is.0
 only text o (Err NotJson) found refused is = refused is.0.1.0 is.0.1.1
@@ -95,8 +98,7 @@ only text o (Err (Formula member at)) found refused is =
     let first = subst (λ w. IsFirstFault (all_formulas w) refused.2.0 refused.2.1) (written_once text refused.0 is.0.0 refused.1 is.0.1) refused.2.2 in
     first_none (all_formulas is.0.0) refused.2.0 refused.2.1 (draft_spelled is.0.0 o is.0.2) first
 only text o (Err (Refused rule member)) found refused is =
-    let same : None ≡ Some (rule, member) = sym is.1 ∙ ap broken (writes_once text o refused.0 is.0 refused.1) ∙ refused.2 in
-    cc
+    absurd (none_some (rule, member) (sym is.1 ∙ ap broken (writes_once text o refused.0 is.0 refused.1) ∙ refused.2))
 only text o (Err (NoMemory e)) found refused is = tt
 
 -- ---- refusals

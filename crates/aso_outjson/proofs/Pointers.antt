@@ -36,3 +36,10 @@ pointer_more names i name within is =
     ∙ ap pointer (reverse-append (name ∷ []) (drop (i + 1) names))
     ∙ flat_map-append (λ n. 47 ∷ escaped n) (reverse (drop (i + 1) names)) (name ∷ [])
     ∙ ap (λ z. pointer (reverse (drop (i + 1) names)) ++ z) (append-nil (47 ∷ escaped name))
+
+pub pointer_next : (names : List (List ℕ)) (i left : ℕ) (name before after : List ℕ) → i < length names → left ≡ i + 1 → name ≡ get_or names i name → before ≡ pointer (reverse (drop left names)) → after ≡ before ++ 47 ∷ escaped name
+    → after ≡ pointer (reverse (drop i names))
+pointer_next names i left name before after within next is so_far put =
+    put
+    ∙ ap (λ z. z ++ 47 ∷ escaped name) (so_far ∙ ap (λ k. pointer (reverse (drop k names))) next)
+    ∙ sym (pointer_more names i name within is)

@@ -13,7 +13,7 @@ returns-in_err-dims-clause-refused c =
 pub returns-in_err-attrs-clause-refused : goal.returns-in_err-attrs-clause-refused
 returns-in_err-attrs-clause-refused c =
     let w = c.args.written in
-    let p = err_from_is_err_and c.from_residual.result c.from_residual.ensures.1 in
+    let p = err_from_is_err_and c.from_residual-in_err-attrs.result c.from_residual-in_err-attrs.ensures.1 in
     rw (p.1, p.2)
     (later (flat_map dim_formulas w.dims) (flat_map attr_formulas w.attrs) 0 c.dims.new.number c.in_err-attrs.field-0.0
     (zip_spelled IsDim dim_formulas dim_spelled w.dims c.in_ok-dims.dims c.in_ok-dims.ensures.found) c.in_ok-dims.ensures.counted c.in_err-attrs.ensures.refused)

@@ -20,7 +20,7 @@ tree_at-returns-in-Err t c =
     let levels = c.args.levels in
     let old = c.args.members.now.items in
     let place : c.capped-at.result ≡ capped (length old) = search rules in
-    tree_fails_at levels (levels - 1) c.args.parent c.capped-at.result old c.push.new.members.items c.in_ok-member.member (view c.args.value.now) c.in-Err.trouble
+    tree_fails_at levels (levels - 1) c.args.parent c.capped-at.result old c.push.new.self.items c.in_ok-member.member (view c.args.value.now) c.in-Err.trouble
     (omega (arith, c.if-levels-eq0.false)) place c.in_ok-push.ensures.items c.in_ok-member.ensures c.in-Err.ensures
 
 pub tree_at-returns-in-Ok : goal.tree_at-returns-in-Ok
@@ -28,5 +28,5 @@ tree_at-returns-in-Ok t c =
     let levels = c.args.levels in
     let old = c.args.members.now.items in
     let place : c.capped-at.result ≡ capped (length old) = search rules in
-    tree_ends_at levels (levels - 1) c.args.parent c.capped-at.result old c.push.new.members.items c.in_ok-member.member (view c.args.value.now) c.no_others.result c.children.new.members.items
+    tree_ends_at levels (levels - 1) c.args.parent c.capped-at.result old c.push.new.self.items c.in_ok-member.member (view c.args.value.now) c.no_others.result c.children.new.members.items
     (omega (arith, c.if-levels-eq0.false)) place c.in_ok-push.ensures.items c.in_ok-member.ensures c.in-Ok.ensures c.no_others.ensures

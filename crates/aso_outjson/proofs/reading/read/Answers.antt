@@ -21,28 +21,28 @@ returns-in_err-value-clause-only c =
 
 pub returns-in_err-written-clause-refused : goal.returns-in_err-written-clause-refused
 returns-in_err-written-clause-refused c =
-    let p = err_from_is_err_and c.from_residual.result c.from_residual.ensures.1 in
+    let p = err_from_is_err_and c.from_residual-in_err-written.result c.from_residual-in_err-written.ensures.1 in
     let text = c.args.text.now in
     let f = c.in_err-written.field-0.0 in
     rw (p.1, p.2) (refused_field text (view c.in_ok-value.value) f c.in_ok-value.ensures.found c.in_err-written.ensures.refused)
 
 pub returns-in_err-written-clause-only : goal.returns-in_err-written-clause-only
 returns-in_err-written-clause-only c =
-    let p = err_from_is_err_and c.from_residual.result c.from_residual.ensures.1 in
+    let p = err_from_is_err_and c.from_residual-in_err-written.result c.from_residual-in_err-written.ensures.1 in
     let text = c.args.text.now in
     let f = c.in_err-written.field-0.0 in
     rw (p.1, p.2) (only_fault text f (refused_field text (view c.in_ok-value.value) f c.in_ok-value.ensures.found c.in_err-written.ensures.refused))
 
 pub returns-in_err-draft-clause-refused : goal.returns-in_err-draft-clause-refused
 returns-in_err-draft-clause-refused c =
-    let p = err_from_is_err_and c.from_residual.result c.from_residual.ensures.1 in
+    let p = err_from_is_err_and c.from_residual-in_err-draft.result c.from_residual-in_err-draft.ensures.1 in
     let text = c.args.text.now in
     let f = c.in_err-draft.field-0.0 in
     rw (p.1, p.2) (refused_formula text (view c.in_ok-value.value) c.in_ok-written.written f c.in_ok-value.ensures.found c.in_ok-written.ensures.found c.in_err-draft.ensures.refused)
 
 pub returns-in_err-draft-clause-only : goal.returns-in_err-draft-clause-only
 returns-in_err-draft-clause-only c =
-    let p = err_from_is_err_and c.from_residual.result c.from_residual.ensures.1 in
+    let p = err_from_is_err_and c.from_residual-in_err-draft.result c.from_residual-in_err-draft.ensures.1 in
     let text = c.args.text.now in
     let f = c.in_err-draft.field-0.0 in
     rw (p.1, p.2) (only_fault text f (refused_formula text (view c.in_ok-value.value) c.in_ok-written.written f c.in_ok-value.ensures.found c.in_ok-written.ensures.found c.in_err-draft.ensures.refused))
