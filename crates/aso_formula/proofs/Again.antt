@@ -1,16 +1,16 @@
 -- What is printed spells what it was printed from, and no text that spells that has fewer parentheses.
-use Rattle.std.proofs.Common.{◌≡◌, ℕ, zero, suc, ◌+◌, ◌≤◌, ◌<◌, ◌^◌, Bool, true, false, List, [], ◌∷◌, ◌++◌, length, map, flat_map, Option, Some, None, refl, sym, ◌∙◌, ap, subst, append_assoc, append-nil, arith, length-append, ◌⊎◌, inl, inr, ⊎_elim, if◌then◌else◌, nat_lt, nat_le, fold, pos, ℤ, take, drop, not, ◌&&◌, ◌==◌, ◌-◌, Result, Ok, Err, option_map}
+use Rattle.std.proofs.Common.{◌≡◌, ℕ, zero, suc, ◌+◌, ◌≤◌, ◌<◌, ◌^◌, Bool, true, false, List, [], ◌∷◌, ◌++◌, length, map, flat_map, Option, Some, None, refl, sym, ◌∙◌, ap, subst, append_assoc, append-nil, arith, ◌⊎◌, inl, inr, ⊎_elim, if◌then◌else◌, nat_lt, nat_le, fold, pos, ℤ, take, drop, not, ◌&&◌, ◌==◌, ◌-◌, Result, Ok, Err, option_map}
 use Rattle.std.specs.List.{prefix_len, list_all}
 use Rattle.std.specs.Result.{result_ok}
 use Rattle.std.proofs.lemmas.List.Sums.{fold-append}
 use Rattle.std.proofs.lemmas.Bool.{leb-false}
 use Rattle.aso_token.specs.declared.token.Token.{Token}
-use Rattle.aso_token.specs.declared.token.Token.TheVariants.{Word, Number, Quoted, Name, Mark as AMark}
+use Rattle.aso_token.specs.declared.token.Token.TheVariants.{Number, Name, Mark as AMark}
 use Rattle.aso_token.specs.declared.token.Mark.{Mark}
-use Rattle.aso_token.specs.declared.token.Mark.TheVariants.{Dot, Comma, Open, Close, OpenSet, CloseSet, Plus, Minus, Star, Slash, Equals}
-use Rattle.aso_token.specs.Lang.{Lang, One, Then, Or, Makes, Empty, UpTo, Many, Chain, put_before}
-use Rattle.aso_token.specs.Marks.{comma, open_mark, close_mark, name}
-use Rattle.aso_token.specs.Reads.{passes, tokens_of}
+use Rattle.aso_token.specs.declared.token.Mark.TheVariants.{Comma, Open, Close, Plus, Minus, Star, Slash, Equals}
+use Rattle.aso_token.specs.Lang.{Lang, One, Then, Makes, UpTo, Chain}
+use Rattle.aso_token.specs.Marks.{comma, open_mark, name}
+use Rattle.aso_token.specs.Reads.{tokens_of}
 use Rattle.aso_token.specs.declared.token.Placed.{Placed}
 use Rattle.aso_token.specs.declared.front.Front.{Front}
 use Rattle.aso_token.specs.Lexing.{is_digit, is_letter, is_blank, mark_of, until, number_len, name_span, closed, open_at_end, content, opens_comment, single, number_front, name_front, front_of}
@@ -22,7 +22,7 @@ use Rattle.aso_outline.specs.declared.draft.Expr.{Expr}
 use Rattle.aso_outline.specs.declared.draft.Expr.TheOpen.{Expr-F}
 use Rattle.aso_outline.specs.declared.draft.Expr.TheFolds.{fold-Expr}
 use Rattle.aso_outline.specs.declared.draft.Expr.TheVariants.{Num, Cell, Neg, Bin}
-use Rattle.aso_formula.specs.Formula.{sum_mark, product_mark, minus, atom, operated, from_left, negative, inner, names_of, cross, Term, Sum, Names, Inside, Negative, Nested, Factor, Formula, SpellsFormula}
+use Rattle.aso_formula.specs.Formula.{sum_mark, product_mark, atom, operated, from_left, cross, Term, Sum, Names, Inside, Factor, Formula, SpellsFormula}
 use Rattle.aso_formula.specs.Printing.{level_of, op_text, bracketed, more_names, cell_text, units_text, number_text, in_parens, shown_step, shown, formula_text, opens, parens_of}
 use Rattle.aso_num.specs.AmountText.{is_negative, digits_len, amount_of, parts_of, judged, Parts, signed, units_of}
 use Rattle.aso_num.specs.declared.amount.NumberFault.{NumberFault}

@@ -1,11 +1,10 @@
 -- What is read is in the grammar of formulas, what is in it is read, and a fault is where nothing can come.
-use Rattle.std.proofs.Common.{◌≡◌, ℕ, zero, suc, ◌≤◌, length, length-append, arith, Bool, true, false, List, [], ◌∷◌, ◌++◌, Option, Some, None, Result, Ok, Err, ◌⊎◌, inl, inr, ⊎_elim, refl, sym, ◌∙◌, ap, subst, append_assoc, append-nil, ◌||◌, ◌&&◌, is_some, option_map}
-use Rattle.aso_token.specs.Numerals.{number_of}
+use Rattle.std.proofs.Common.{◌≡◌, ℕ, zero, suc, length, length-append, arith, Bool, true, false, List, [], ◌∷◌, ◌++◌, Option, Some, None, Ok, Err, inr, ⊎_elim, refl, sym, ◌∙◌, ap, subst, append_assoc, append-nil, ◌||◌, ◌&&◌, is_some, option_map}
 use Rattle.aso_token.specs.declared.token.Token.{Token}
-use Rattle.aso_token.specs.declared.token.Token.TheVariants.{Word, Number, Quoted, Name, Mark}
-use Rattle.aso_token.specs.declared.token.Mark.TheVariants.{Dot, Comma, Open, Close, OpenSet, CloseSet, Plus, Minus, Star, Slash, Equals}
-use Rattle.aso_token.specs.Lang.{Lang, One, Then, Or, Makes, Empty, UpTo, Many, Chain, Begins}
-use Rattle.aso_token.specs.Reads.{Read, ◌>>=◌, paired, made, begins, begin, begins_second, with_rest, read_one, read_then, read_as, read_if, read_if_two, read_chain, read_many, passes}
+use Rattle.aso_token.specs.declared.token.Token.TheVariants.{Number, Name, Mark}
+use Rattle.aso_token.specs.declared.token.Mark.TheVariants.{Comma, Open, Close, Plus, Minus, Star, Slash}
+use Rattle.aso_token.specs.Lang.{Lang, One, Then, Or, Makes, Chain}
+use Rattle.aso_token.specs.Reads.{Read, ◌>>=◌, paired, made, begins, begin, begins_second, with_rest, read_one, read_then, read_if, read_chain, passes}
 use Rattle.aso_token.proofs.Laws.{Law, Halts, either, one_law, then_law, as_law, or_law, or_two_law, chain_law, loosen, one_heads, many_follow, halts_first, halts_second, never_halts, fails, ok_err, bad, err_is, onward_start, onward_end}
 use Rattle.aso_outline.specs.declared.draft.Op.{Op}
 use Rattle.aso_outline.specs.declared.draft.Expr.{Expr}

@@ -1,7 +1,10 @@
 pub mod Again
 pub mod Answered
+pub mod AtomLemmas
 pub mod Joins
 pub mod Laws
 pub mod Numbers
+pub mod PlaceLemmas
+pub mod ReadLemmas
 pub mod Steps
 pub mod Trees

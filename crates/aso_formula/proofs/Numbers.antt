@@ -1,17 +1,17 @@
 -- The text of a number is read as that number.
-use Rattle.std.proofs.Common.{◌≡◌, ℕ, zero, suc, ◌+◌, ◌-◌, ◌*◌, ◌/◌, ◌%◌, ◌^◌, ◌≤◌, ◌<◌, Bool, true, false, not, ◌==◌, ◌&&◌, ◌||◌, List, [], ◌∷◌, ◌++◌, length, map, take, drop, Option, Some, None, Result, Ok, Err, refl, sym, ◌∙◌, ap, subst, append-nil, arith, length-append, ◌⊎◌, inl, inr, ⊎_elim, if◌then◌else◌, ℤ, pos, nat_le, nat_lt}
-use Rattle.std.specs.List.{prefix_len, list_all}
+use Rattle.std.proofs.Common.{◌≡◌, ℕ, suc, ◌+◌, ◌-◌, ◌*◌, ◌/◌, ◌%◌, ◌^◌, ◌≤◌, ◌<◌, Bool, true, false, not, ◌==◌, ◌&&◌, ◌||◌, List, [], ◌∷◌, ◌++◌, length, map, take, drop, Some, None, Result, Ok, Err, refl, sym, ◌∙◌, ap, arith, length-append, ◌⊎◌, inl, inr, ⊎_elim, if◌then◌else◌, ℤ, pos, nat_le}
+use Rattle.std.specs.List.{list_all}
 use Rattle.std.specs.Result.{result_ok}
 use Rattle.std.specs.Fmt.{decimal}
 use Rattle.std.specs.Int.Digits.{number_from_digits_after}
 use Rattle.std.proofs.Math.Seq.{take-append_seam, drop-append_seam, take-length, drop-length}
-use Rattle.std.proofs.lemmas.Bool.{lt-ltb, le-leb, lt-leb, eqb-true}
+use Rattle.std.proofs.lemmas.Bool.{le-leb, lt-leb, eqb-true}
 use Rattle.std.proofs.lemmas.Fmt.{decimal_by_steps}
 use Rattle.std.proofs.lemmas.Int.Digits.{number_after_append}
 use Rattle.std.proofs.lemmas.List.{map-append, take_all}
-use Rattle.aso_num.specs.AmountText.{is_digit, digits_len, sign_len, is_negative, point_len, Parts, whole_and_rest, parts_of, number, units_text_value, units_of, signed, judged, amount_of}
+use Rattle.aso_num.specs.AmountText.{is_digit, digits_len, sign_len, point_len, Parts, whole_and_rest, parts_of, number, units_text_value, judged, amount_of}
 use Rattle.aso_num.specs.declared.amount.NumberFault.{NumberFault}
-use Rattle.aso_num.specs.declared.amount.NumberFault.TheVariants.{NotNumber, Decimals, Range}
+use Rattle.aso_num.specs.declared.amount.NumberFault.TheVariants.{Range}
 use Rattle.aso_token.specs.Numerals.{number_of}
 use Rattle.aso_token.proofs.Laws.{if_true, if_false}
 use Rattle.aso_token.proofs.Lexed.{Numeral}

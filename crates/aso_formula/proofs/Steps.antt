@@ -1,13 +1,12 @@
 -- The reading of a factor, by its front token.
-use Rattle.std.proofs.Common.{◌≡◌, ◌≢◌, ℕ, zero, suc, ◌-◌, ◌<◌, Bool, true, false, List, [], ◌∷◌, ◌++◌, Option, Some, None, Result, Ok, Err, refl, sym, ◌∙◌, ap, append_assoc, append-nil, ◌&&◌, map, fold, arith, sub-one, option_map, is_some}
+use Rattle.std.proofs.Common.{◌≡◌, ◌≢◌, ℕ, zero, suc, ◌-◌, Bool, false, List, [], ◌∷◌, ◌++◌, Some, None, Ok, Err, refl, sym, ◌∙◌, ap, append_assoc, append-nil, map, fold, arith}
 use Rattle.aso_token.specs.declared.token.Token.{Token}
 use Rattle.aso_token.specs.declared.token.Token.TheVariants.{Name, Mark}
 use Rattle.aso_token.specs.declared.token.Mark.TheVariants.{Comma, Open, Minus}
-use Rattle.aso_token.specs.Lang.{Lang, One}
-use Rattle.aso_token.specs.Reads.{Read, ◌>>=◌, paired, second, made, begins, begin, read_one, read_chain, read_as, read_many, read_then, onward, front_of, passes}
-use Rattle.aso_token.proofs.Laws.{Law, if_true, if_false, not_front, onward_start, onward_fail, one_law}
+use Rattle.aso_token.specs.Lang.{One}
+use Rattle.aso_token.specs.Reads.{Read, ◌>>=◌, paired, second, made, begins, read_one, read_chain, onward, front_of, passes}
+use Rattle.aso_token.proofs.Laws.{if_false, not_front, onward_start, onward_fail, one_law}
 use Rattle.aso_outline.specs.declared.draft.Expr.{Expr}
-use Rattle.aso_outline.specs.declared.draft.Expr.TheVariants.{Cell, Neg}
 use Rattle.aso_token.specs.Marks.{comma, open_mark, close_mark, name}
 use Rattle.aso_formula.specs.Formula.{minus, atom, negative, inner, cross, names_of}
 use Rattle.aso_formula.specs.Reading.{behind, grown, read_names, read_behind, read_rest, crossed, read_negated, negated_of, read_closed, closed_of, left_over, read_inside, read_sum, read_factor, pair_front}

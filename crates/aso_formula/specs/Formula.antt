@@ -1,9 +1,9 @@
 -- The grammar of formulas.
-use Rattle.std.specs.Prelude.{◌≡◌, ℕ, zero, suc, Bool, true, false, List, [], ◌∷◌, map, Option, Some, None, option_map, ◌==◌, fold}
+use Rattle.std.specs.Prelude.{ℕ, zero, suc, false, List, [], ◌∷◌, map, Option, Some, None, option_map, fold}
 use Rattle.aso_token.specs.Numerals.{number_of}
 use Rattle.aso_token.specs.declared.token.Token.{Token}
-use Rattle.aso_token.specs.declared.token.Token.TheVariants.{Word, Number, Quoted, Name, Mark}
-use Rattle.aso_token.specs.declared.token.Mark.TheVariants.{Dot, Comma, Open, Close, OpenSet, CloseSet, Plus, Minus, Star, Slash, Equals}
+use Rattle.aso_token.specs.declared.token.Token.TheVariants.{Number, Name, Mark}
+use Rattle.aso_token.specs.declared.token.Mark.TheVariants.{Plus, Minus, Star, Slash}
 use Rattle.aso_token.specs.Lang.{Lang, One, Then, Or, Makes, Chain}
 use Rattle.aso_token.specs.Texts.{Spells, IsFaultAt}
 use Rattle.aso_token.specs.Marks.{comma, open_mark, close_mark, name}

@@ -1,4 +1,6 @@
 pub mod Answer
+pub mod Places
 pub mod Formula
+pub mod Found
 pub mod Printing
 pub mod Reading

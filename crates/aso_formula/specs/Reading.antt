@@ -1,5 +1,5 @@
 -- How a formula is read.
-use Rattle.std.specs.Prelude.{◌≡◌, ℕ, zero, suc, Bool, true, false, List, [], ◌∷◌, ◌++◌, Option, Some, None, Ok}
+use Rattle.std.specs.Prelude.{ℕ, zero, suc, List, [], ◌∷◌, ◌++◌, Option, Some, None, Ok}
 use Rattle.aso_token.specs.declared.token.Token.{Token}
 use Rattle.aso_token.specs.declared.token.Token.TheVariants.{Name, Mark}
 use Rattle.aso_token.specs.declared.token.Mark.TheVariants.{Comma}

@@ -1,14 +1,18 @@
-//! Formula texts: reading one, and printing a formula with the fewest parentheses.
+//! Formula texts: reading one, by itself or against an outline, and printing a formula with the fewest parentheses.
 #![tactic(auto)]
 
+mod atoms;
 mod fault;
+mod places;
 mod printing;
 mod reading;
 mod text;
 
 pub use fault::FormulaFault;
 pub use printing::print;
-pub use text::parse;
+pub use text::{parse, read};
 
+#[cfg(test)]
+mod read_tests;
 #[cfg(test)]
 mod tests;

@@ -32,7 +32,7 @@ fn sum_op(token: &Token<'_>) -> Option<Op>
     }
 }
 
-fn copied(alloc: Global, piece: &Piece<'_>) -> Result<Text, AllocError>
+pub(crate) fn copied(alloc: Global, piece: &Piece<'_>) -> Result<Text, AllocError>
     ensures { IfOk result (λ t. t ≡ piece.now) }
 {
     Ok(Text::of(String::from_str(alloc, piece.as_str())?))

@@ -16,7 +16,7 @@ fn name_of(op: Op) -> &'static str {
 }
 
 // The tree of a formula, in which an operator stands before its operands and a number is in units.
-fn put_tree(e: &Expr, out: &mut String) -> Result<(), AllocError> {
+pub fn put_tree(e: &Expr, out: &mut String) -> Result<(), AllocError> {
     match e {
         Expr::Num(units) => write!(out, "{units}")?,
         Expr::Cell(names) => {
@@ -49,6 +49,7 @@ fn tree_of(alloc: Global, text: &str) -> Result<String, NoMemory> {
         Ok(formula) => put_tree(&formula, &mut out)?,
         Err(FormulaFault::Syntax { at }) => write!(out, "byte {at}")?,
         Err(FormulaFault::NoMemory(_)) => out.push_str("no memory")?,
+        Err(_) => out.push_str("another fault")?,
     }
     Ok(out)
 }
@@ -61,7 +62,7 @@ fn printed(alloc: Global, text: &str) -> Result<String, NoMemory> {
 }
 
 // Text before, text within and text behind, the outer two this often.
-fn nested(
+pub fn nested(
     alloc: Global,
     open: &str,
     within: &str,

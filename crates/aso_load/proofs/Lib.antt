@@ -1,3 +1,4 @@
 pub mod Left
 pub mod Steps
 pub mod Examples
+pub mod Standing

@@ -1,4 +1,5 @@
 pub mod Csv
 pub mod Fields
+pub mod Leaves
 pub mod Records
 pub mod Gathering

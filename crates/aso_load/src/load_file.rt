@@ -1,4 +1,5 @@
 ghost use Rattle.std.specs.Prelude.{◌≡◌, [], IfOk};
+ghost use Rattle.aso_load.specs.Leaves.{StandAtLeaves};
 ghost use Rattle.aso_load.specs.Records.{loaded};
 
 use crate::gather::gather;
@@ -20,9 +21,12 @@ fn nothing(alloc: Global) -> Loaded
     }
 }
 
-/// What the records of a data file come to under the rules for an outline: the amounts of the records that are loaded, the records
-/// that are rejected, each for the first reason that holds, and how many are skipped. docs/FORMATS.md has the reasons.
-pub fn load(alloc: Global, outline: &Outline, rules: &Rules, csv: &[u8]) -> Result<Loaded, NoMemory>
+fn load_records(
+    alloc: Global,
+    outline: &Outline,
+    rules: &Rules,
+    csv: &[u8],
+) -> Result<Loaded, NoMemory>
     ensures { IfOk result (λ l. l ≡ loaded outline.now rules.now csv.now) }
 {
     let mut reader = open(alloc, rules.delimiter, csv);
@@ -37,4 +41,15 @@ pub fn load(alloc: Global, outline: &Outline, rules: &Rules, csv: &[u8]) -> Resu
         rejects: List::of(gathered.rejects),
         skipped: gathered.skipped,
     })
+}
+
+/// What the records of a data file come to under the rules for an outline: the amounts of the records that are loaded, the records
+/// that are rejected, each for the first reason that holds, and how many are skipped. docs/FORMATS.md has the reasons. Whatever the
+/// rules are, each amount stands at a data leaf of each base dimension.
+pub fn load(alloc: Global, outline: &Outline, rules: &Rules, csv: &[u8]) -> Result<Loaded, NoMemory>
+    ensures loaded { IfOk result (λ l. l ≡ loaded outline.now rules.now csv.now) }
+    ensures leaves { IfOk result (λ l. StandAtLeaves outline.now l.amounts) }
+{
+    outline.keeps_leaves();
+    load_records(alloc, outline, rules, csv)
 }

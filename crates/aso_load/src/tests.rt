@@ -191,23 +191,99 @@ fn reasons(rt: HostRuntime) -> Result<(), Fail> {
         &outline,
         b"{\"header_records\":1,\"columns\":[{\"data\":[\"Sales\"]},{\"dimension\":\"Year\"},{\"data\":[\"Cost\"]},{\"dimension\":\"Market\"}]}",
     )?;
-    let cases = [
+    // each reason alone
+    let alone = [
         (b"h\n1,Jan,2,NY,3\n".as_slice(), 1),
-        (b"h\n\xff,Jan,2\n", 1),
+        (b"h\n1,Jan,2\n", 1),
         (b"h\n1,Jan,\xff,NY\n", 2),
-        (b"h\n1,Paris,2,\xc3\n", 2),
+        (b"h\n1,Jan,2,\xc3\n", 2),
         (b"h\n1,Paris,2,NY\n", 3),
-        (b"h\n1,Year,2,Paris\n", 3),
+        (b"h\n1,jan,2,NY\n", 3),
+        (b"h\n1,,2,NY\n", 3),
         (b"h\n1,Year,2,NY\n", 4),
         (b"h\n1,NY,2,NY\n", 4),
-        (b"h\nx,Jan,2,East\n", 4),
+        (b"h\n1,Jan,2,East\n", 4),
         (b"h\nx,Jan,2,NY\n", 5),
+        (b"h\n1,Jan,#mi,NY\n", 5),
         (b"h\n1.00001,Jan,2,NY\n", 5),
-        (b"h\n100000000000000,Jan,1e3,NY\n", 5),
+        (b"h\n1,Jan,1e3,NY\n", 5),
         (b"h\n1,Jan,-100000000000000,NY\n", 6),
+        (b"h\n99999999999999.99990,Jan,100000000000000.0000,NY\n", 6),
     ];
-    for (text, reason) in cases {
+    for (text, reason) in alone {
         is_rejected(&rt, alloc, &outline, &rules, text, reason)?;
+    }
+    // each two together, in either order where fields have one
+    let together = [
+        (b"h\n1,Jan,\xff\n".as_slice(), 1),
+        (b"h\n1,Paris,2\n", 1),
+        (b"h\n1,Year,2\n", 1),
+        (b"h\nx,Jan,2\n", 1),
+        (b"h\n100000000000000,Jan,2,NY,3\n", 1),
+        (b"h\n1,\xff,2,Paris\n", 2),
+        (b"h\n1,Paris,2,\xff\n", 2),
+        (b"h\n1,\xff,2,East\n", 2),
+        (b"h\n1,Year,2,\xff\n", 2),
+        (b"h\n\xff,Jan,x,NY\n", 2),
+        (b"h\nx,Jan,\xff,NY\n", 2),
+        (b"h\n\xff,Jan,100000000000000,NY\n", 2),
+        (b"h\n100000000000000,Jan,2,\xff\n", 2),
+        (b"h\n1,Paris,2,East\n", 3),
+        (b"h\n1,Year,2,Paris\n", 3),
+        (b"h\n1,Paris,x,NY\n", 3),
+        (b"h\nx,Jan,2,Paris\n", 3),
+        (b"h\n1,Paris,100000000000000,NY\n", 3),
+        (b"h\n100000000000000,Paris,2,NY\n", 3),
+        (b"h\n1,Year,x,NY\n", 4),
+        (b"h\nx,Jan,2,East\n", 4),
+        (b"h\n1,Year,100000000000000,NY\n", 4),
+        (b"h\n100000000000000,Jan,2,East\n", 4),
+        (b"h\nx,Jan,100000000000000,NY\n", 5),
+        (b"h\n100000000000000,Jan,x,NY\n", 5),
+    ];
+    for (text, reason) in together {
+        is_rejected(&rt, alloc, &outline, &rules, text, reason)?;
+    }
+    Ok(())
+}
+
+#[test]
+fn delimiters(rt: HostRuntime) -> Result<(), Fail> {
+    let alloc = rt.alloc();
+    let outline = outline(alloc)?;
+    let cases = [
+        (
+            b"{\"delimiter\":\";\",\"columns\":[{\"dimension\":\"Market\"},{\"data\":[\"Sales\"]}],\"fixed\":[\"Jan\"]}".as_slice(),
+            b"NY;1\n\"CA\";\" 2;\"\nCA;2\n".as_slice(),
+        ),
+        (
+            b"{\"delimiter\":\" \",\"columns\":[{\"dimension\":\"Market\"},{\"data\":[\"Sales\"]}],\"fixed\":[\"Jan\"]}",
+            b"NY 1\nMA \" 1 1 \"\nCA \" 2 \"\n",
+        ),
+        (
+            b"{\"delimiter\":\"x\",\"columns\":[{\"dimension\":\"Market\"},{\"data\":[\"Sales\"]}],\"fixed\":[\"Jan\"]}",
+            b"NYx1\nMAx\"x\"\nCAx2\n",
+        ),
+        (
+            b"{\"delimiter\":\"9\",\"columns\":[{\"dimension\":\"Market\"},{\"data\":[\"Sales\"]}],\"fixed\":[\"Jan\"]}",
+            b"NY91\n9,\nCA92",
+        ),
+        (
+            b"{\"delimiter\":\"\\u0000\",\"columns\":[{\"dimension\":\"Market\"},{\"data\":[\"Sales\"]}],\"fixed\":[\"Jan\"]}",
+            b"NY\x001\r\nMA,1\x00x\r\n\r\nCA\x002\r\n",
+        ),
+        (
+            b"{\"delimiter\":\"\\u007f\",\"columns\":[{\"dimension\":\"Market\"},{\"data\":[\"Sales\"]}],\"fixed\":[\"Jan\"]}",
+            b"NY\x7f1\nMA\x7f,\nCA\x7f2\n",
+        ),
+    ];
+    for (file, text) in cases {
+        let rules = rules(alloc, &outline, file)?;
+        let loaded = load(alloc, &outline, &rules, text)?;
+        assert_eq!(rt; loaded.amounts.items().len(), 2);
+        stands(&rt, &loaded, 0, [0, 0, 0], 10_000);
+        stands(&rt, &loaded, 1, [0, 2, 0], 20_000);
+        assert_eq!(rt; loaded.rejects.items().len(), 1);
     }
     Ok(())
 }

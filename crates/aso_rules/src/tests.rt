@@ -81,38 +81,102 @@ fn each_rule_is_broken_and_kept(rt: HostRuntime) -> Result<(), Fail> {
     let cases = [
         (b"{".as_slice(), 0),
         (b"\xff", 0),
+        (b"\xef\xbb\xbf{}", 0),
+        (b"{} {}", 0),
+        (b"{\"header_records\":1e999}", 0),
         (b"[]", 1),
+        (b"null", 1),
         (b"{\"rows\":1,\"delimiter\":7}", 1),
+        (b"{\"Columns\":[]}", 1),
         (b"{\"delimiter\":\";;\",\"header_records\":-1}", 2),
+        (b"{\"delimiter\":\"\"}", 2),
+        (b"{\"delimiter\":\"\\\"\"}", 2),
         (b"{\"delimiter\":\"\\n\"}", 2),
+        (b"{\"delimiter\":\"\\r\"}", 2),
+        (b"{\"delimiter\":\"\\u0080\"}", 2),
+        (b"{\"delimiter\":44}", 2),
+        (b"{\"delimiter\":null}", 2),
         (b"{\"header_records\":1001,\"columns\":[]}", 3),
         (b"{\"header_records\":1.0,\"columns\":[]}", 3),
+        (b"{\"header_records\":-0}", 3),
+        (b"{\"header_records\":\"1\"}", 3),
+        (b"{\"header_records\":true}", 3),
+        (b"{}", 4),
+        (b"{\"delimiter\":\"\\u0000\",\"header_records\":1000}", 4),
+        (b"{\"delimiter\":\"\\u007f\",\"header_records\":0}", 4),
+        (b"{\"columns\":{}}", 4),
         (b"{\"columns\":[]}", 4),
+        (b"{\"columns\":[\"Year\"]}", 4),
+        (b"{\"columns\":[{}]}", 4),
+        (b"{\"columns\":[{\"dimension\":[\"Year\"]}]}", 4),
         (
             b"{\"columns\":[{\"dimension\":\"Town\",\"data\":[\"Town\"]}]}",
+            4,
+        ),
+        (
+            b"{\"columns\":[{\"dimension\":\"Town\",\"ignore\":true}]}",
+            4,
+        ),
+        (b"{\"columns\":[{\"data\":[],\"prefix\":\"\"}]}", 4),
+        (b"{\"columns\":[{\"data\":\"Sales\"}]}", 4),
+        (b"{\"columns\":[{\"data\":[7]}]}", 4),
+        (
+            b"{\"columns\":[{\"dimension\":\"Town\",\"prefix\":null}]}",
+            4,
+        ),
+        (b"{\"columns\":[{\"dimension\":\"Town\",\"suffix\":7}]}", 4),
+        (
+            b"{\"columns\":[{\"dimension\":\"Town\",\"replace\":{}}]}",
             4,
         ),
         (
             b"{\"columns\":[{\"dimension\":\"Town\",\"replace\":[[\"a\"]]}]}",
             4,
         ),
+        (
+            b"{\"columns\":[{\"dimension\":\"Town\",\"replace\":[[\"a\",\"b\",\"c\"]]}]}",
+            4,
+        ),
+        (
+            b"{\"columns\":[{\"dimension\":\"Town\",\"replace\":[[\"a\",1]]}]}",
+            4,
+        ),
         (b"{\"columns\":[{\"ignore\":false}]}", 4),
+        (b"{\"columns\":[{\"ignore\":1}]}", 4),
         (
             b"{\"columns\":[{\"data\":[\"Sales\"]}],\"fixed\":\"Jan\"}",
             4,
         ),
+        (b"{\"columns\":[{\"data\":[\"Town\"]}],\"fixed\":[null]}", 4),
         (b"{\"columns\":[{\"dimension\":\"Jan\"}]}", 5),
+        (b"{\"columns\":[{\"dimension\":\"year\"}]}", 5),
         (b"{\"columns\":[{\"data\":[\"Measures\"]}]}", 5),
+        (b"{\"columns\":[{\"data\":[\"Sales\",\"Town\"]}]}", 5),
         (b"{\"columns\":[{\"ignore\":true}],\"fixed\":[\"Year\"]}", 5),
+        (b"{\"columns\":[{\"ignore\":true}],\"fixed\":[\"\"]}", 5),
         (b"{\"columns\":[{\"dimension\":\"Year\"}]}", 6),
         (b"{\"columns\":[{\"dimension\":\"Year\"},{\"data\":[]}]}", 6),
+        (b"{\"columns\":[{\"data\":[\"Sales\",\"Cost\"]}]}", 6),
+        (b"{\"columns\":[{\"data\":[\"Sales\",\"Jan\",\"Feb\"]}]}", 6),
         (
             b"{\"columns\":[{\"dimension\":\"Year\"},{\"data\":[\"Sales\"]}],\"fixed\":[\"Jan\"]}",
             6,
         ),
+        (
+            b"{\"columns\":[{\"data\":[\"Sales\"]},{\"data\":[\"Cost\",\"Feb\"]}],\"fixed\":[\"Jan\"]}",
+            6,
+        ),
+        (
+            b"{\"columns\":[{\"dimension\":\"Year\"},{\"dimension\":\"Year\"},{\"data\":[\"Sales\"]}]}",
+            6,
+        ),
         (b"{\"columns\":[{\"data\":[\"Sales\",\"Jan\"]}]}", 7),
         (
-            b"{\"columns\":[{\"data\":[\"Sales\"]}],\"fixed\":[\"Jan\"]}",
+            b"{\"columns\":[{\"data\":[\"Sales\",\"Jan\"]},{\"data\":[\"Feb\",\"Cost\"]}],\"fixed\":[]}",
+            7,
+        ),
+        (
+            b"{\"columns\":7,\"columns\":[{\"data\":[\"Sales\"]}],\"fixed\":[\"Jan\"]}",
             7,
         ),
         (
@@ -139,5 +203,26 @@ fn rules_are_read(rt: HostRuntime) -> Result<(), Fail> {
     assert_eq!(rt; rules.header_records, 2);
     assert_eq!(rt; rules.columns.items().len(), 1);
     assert!(rt; rules.fixed.items() == [2].as_slice());
+    Ok(())
+}
+
+// So many columns, of which all but the last are passed over.
+fn with_columns(alloc: Global, count: u32) -> Result<String, NoMemory> {
+    let mut text = String::from_str(alloc, "{\"columns\":[")?;
+    for _ in 1..count {
+        text.push_str("{\"ignore\":true},")?;
+    }
+    text.push_str("{\"data\":[\"Sales\",\"Jan\"]}]}")?;
+    Ok(text)
+}
+
+#[test]
+fn at_most_256_columns(rt: HostRuntime) -> Result<(), Fail> {
+    let alloc = rt.alloc();
+    let outline = outline(alloc)?;
+    for (count, rule) in [(1, 7), (256, 7), (257, 4)] {
+        let text = with_columns(alloc, count)?;
+        breaks(&rt, alloc, &outline, text.as_bytes(), rule)?;
+    }
     Ok(())
 }

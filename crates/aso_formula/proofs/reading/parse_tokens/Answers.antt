@@ -1,9 +1,9 @@
-use Rattle.std.proofs.Common.{◌≡◌, ◌∙◌, Bool, List, Result, Ok, Err, IfOk, IfErr, sym}
+use Rattle.std.proofs.Common.{◌∙◌, Bool, List, Result, Ok, Err, IfOk, IfErr, sym}
 use Rattle.aso_token.specs.declared.token.Token.{Token}
 use Rattle.aso_token.specs.declared.stop.Stop.{Stop}
 use Rattle.aso_token.specs.declared.stop.Stop.TheVariants.{NoMemory, At}
 use Rattle.aso_token.specs.Lang.{Lang}
-use Rattle.aso_token.specs.Reads.{tokens_of, finished, Answers, LostAt, FaultIn, Read}
+use Rattle.aso_token.specs.Reads.{tokens_of, finished, Answers, FaultIn, Read}
 use Rattle.aso_token.proofs.Laws.{Law, text_found, text_only, text_fault}
 use Rattle.aso_formula.specs.Formula.{Formula}
 use Rattle.aso_formula.specs.Reading.{read_sum, read_factor}

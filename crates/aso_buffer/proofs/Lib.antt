@@ -1,0 +1,4 @@
+pub mod RowLemmas
+pub mod KeyLemmas
+pub mod PastLemmas
+pub mod LeafLemmas
