@@ -1,0 +1,24 @@
+//! Outlines as JSON.
+#![tactic(auto)]
+
+mod fault;
+mod fields;
+mod formulas;
+mod hierarchies;
+mod members;
+mod object;
+mod outlines;
+mod part;
+mod parts;
+mod path;
+mod pointer;
+mod reading;
+mod trouble;
+mod values;
+mod written;
+
+pub use fault::JsonFault;
+pub use reading::read;
+
+#[cfg(test)]
+mod tests;
