@@ -137,7 +137,12 @@ fn are_long(outline: &Outline, asked: &[Tuple]) -> bool
     ensures { result ≡ true → (k : ℕ) (t : Coordinates) → slice_get asked.now k ≡ Some t → length t.base ≡ length outline.now.dims }
 {
     let dims = outline.dims() as usize;
-    asked.iter().all(|tuple| tuple.base.items().len() == dims)
+    for tuple in asked {
+        if tuple.base.items().len() != dims {
+            return false;
+        }
+    }
+    true
 }
 
 fn alone(alloc: Global, outline: &Outline, extra: &Extra, asked: &[Tuple], stored: &StoredValues) -> Result<u32, CalcFault> {
@@ -180,8 +185,8 @@ fn main(rt: HostRuntime) -> Result<()> {
     Ok(())
 }
 EOP
-cp "$top/crates/aso_calc/proofs/test_outlines/are_long/Answers.antt" "$work/crates/times/proofs/are_long/"
-sed -i 's/Rattle\.aso_calc\.proofs\.test_outlines\.are_long/Rattle.times.proofs.are_long/' "$work/crates/times/proofs/are_long/Answers.antt"
+cp "$top/crates/aso_calc/proofs/test_outlines/are_long/Invariants.antt" "$work/crates/times/proofs/are_long/"
+sed -i 's/Rattle\.aso_calc\.proofs\.test_outlines\.are_long/Rattle.times.proofs.are_long/' "$work/crates/times/proofs/are_long/Invariants.antt"
 (cd "$work/crates/times" && rt run) >"$work/build.log" 2>&1 || { tail -20 "$work/build.log" >&2; exit 1; }
 for turn in $(seq "$turns"); do
     "$work/crates/times/out/times"

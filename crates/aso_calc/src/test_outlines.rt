@@ -246,7 +246,12 @@ pub fn are_long(outline: &Outline, asked: &[Tuple]) -> bool
     ensures { result ≡ true → (k : ℕ) (t : Coordinates) → slice_get asked.now k ≡ Some t → length t.base ≡ length outline.now.dims }
 {
     let dims = outline.dims() as usize;
-    asked.iter().all(|tuple| tuple.base.items().len() == dims)
+    for tuple in asked {
+        if tuple.base.items().len() != dims {
+            return false;
+        }
+    }
+    true
 }
 
 /// A stored value for each of some tuples: that which stands beside its members, else missing.
