@@ -1,5 +1,5 @@
 -- How far the reading of the formulas has come.
-use Rattle.std.proofs.Common.{◌≡◌, ◌∙◌, ℕ, zero, suc, ◌+◌, ◌-◌, ◌^◌, ◌<◌, ◌≤◌, min, arith, Bool, true, false, List, [], ◌∷◌, ◌++◌, append_assoc, append-nil, length, length-append, flat_map, Option, Some, None, if◌then◌else◌, nat_lt, refl, sym, ap, subst}
+use Rattle.std.proofs.Common.{◌≡◌, ◌∙◌, ℕ, zero, suc, ◌+◌, arith, Bool, true, false, List, [], ◌∷◌, ◌++◌, append_assoc, append-nil, length, length-append, flat_map, Option, Some, None, if◌then◌else◌, nat_lt, refl, sym, ap, subst}
 use Rattle.std.specs.List.{AllByRecursion, AllZip}
 use Rattle.std.proofs.lemmas.List.{nil_from_length}
 use Rattle.aso_outline.specs.Members.{Name}
@@ -9,7 +9,7 @@ use Rattle.aso_outline.specs.declared.draft.DraftDim.{DraftDim}
 use Rattle.aso_outline.specs.declared.draft.DraftHier.{DraftHier}
 use Rattle.aso_outline.specs.declared.draft.DraftMember.{DraftMember}
 use Rattle.aso_outline.specs.declared.draft.Expr.{Expr}
-use Rattle.aso_outjson.specs.Formulas.{IsAtFault, IsAttr, IsDim, IsDraft, IsFault, IsFirstFault, IsFormula, IsFurther, IsHier, IsMember, IsSpelled, all_formulas, attr_formulas, dim_formulas, formula_of, hier_formulas, whole}
+use Rattle.aso_outjson.specs.Formulas.{IsAttr, IsDim, IsDraft, IsFault, IsFirstFault, IsFormula, IsFurther, IsHier, IsMember, IsSpelled, all_formulas, attr_formulas, dim_formulas, formula_of, hier_formulas, whole}
 use Rattle.aso_outjson.specs.Words.{capped}
 use Rattle.aso_outjson.specs.declared.fault.JsonFault.{JsonFault}
 use Rattle.aso_outjson.specs.declared.fault.JsonFault.TheVariants.{NotJson, Field, Formula, Refused, NoMemory}

@@ -1,5 +1,5 @@
 -- The definitions, computed on the Basic outline and on small values with a fault.
-use Rattle.std.proofs.Common.{◌≡◌, ℕ, List, [], ◌∷◌, true, map, flat_map, length, refl, codes, Some, None, Option, Ok, Err, Result}
+use Rattle.std.proofs.Common.{◌≡◌, ℕ, List, [], ◌∷◌, true, map, flat_map, length, refl, codes, Some, None, Option, Ok, Err}
 use Rattle.serde_json.specs.Data.{Data, null, boolean, number, string, array, object, unsigned, Members, no_members, member}
 use Rattle.serde_json.specs.View.{items_of}
 use Rattle.serde_json.proofs.OnLiterals.{serde_json_on_literals}
@@ -10,7 +10,6 @@ use Rattle.aso_outjson.specs.Members.{member_in, tree_at, tree_in}
 use Rattle.aso_outjson.specs.Objects.{attr_in, dim_in, hier_in, outline_in}
 use Rattle.aso_outjson.specs.Pointer.{pointer}
 use Rattle.aso_outjson.specs.declared.written.Written.{Written}
-use Rattle.aso_outjson.specs.declared.written.WrittenAttr.{WrittenAttr}
 use Rattle.aso_outjson.specs.declared.written.WrittenDim.{WrittenDim}
 use Rattle.aso_outjson.specs.declared.written.WrittenHier.{WrittenHier}
 use Rattle.aso_outjson.specs.declared.written.WrittenMember.{WrittenMember}

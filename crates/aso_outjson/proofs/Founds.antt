@@ -1,12 +1,12 @@
 -- Lists that are read item by item, up to the first fault.
-use Rattle.std.proofs.Common.{◌≡◌, ◌∙◌, ℕ, suc, ◌+◌, ◌≤◌, List, [], ◌∷◌, ◌++◌, append_assoc, append-nil, length, length-append, drop, map, Option, Some, None, Result, Ok, Err, refl, sym, ap, subst, codes}
+use Rattle.std.proofs.Common.{◌≡◌, ◌∙◌, ℕ, suc, ◌+◌, ◌≤◌, List, [], ◌∷◌, ◌++◌, append_assoc, append-nil, length, length-append, drop, map, Option, Some, Result, Ok, Err, refl, sym, ap, subst, codes}
 use Rattle.std.specs.Fmt.{decimal}
 use Rattle.std.specs.Prelude.{⊤}
 use Rattle.std.proofs.lemmas.List.{drop_all}
 use Rattle.serde_json.specs.Data.{Data, Items}
 use Rattle.serde_json.specs.View.{items_of, items_view, view}
 use Rattle.serde_json.specs.declared.value.Value.{Value}
-use Rattle.aso_outjson.specs.Fields.{Found, Path, ◌>>=◌, each, joined, lists_in, may, no_others, or_fault, under}
+use Rattle.aso_outjson.specs.Fields.{Found, ◌>>=◌, each, joined, lists_in, may, no_others, or_fault, under}
 use Rattle.aso_rules.specs.Json.{listed}
 use Rattle.aso_outjson.specs.Gives.{Adds, Fails, Gives, IsUnder, behind}
 use Rattle.aso_outjson.specs.Members.{member_in, tree_at}

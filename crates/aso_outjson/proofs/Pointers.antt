@@ -1,5 +1,5 @@
 -- Marks in a text that others are put for, and pointers name by name.
-use Rattle.std.proofs.Common.{◌≡◌, ◌≢◌, ◌∙◌, ℕ, zero, suc, ◌+◌, ◌<◌, arith, Bool, true, false, ◌==◌, List, [], ◌∷◌, ◌++◌, append_assoc, append-nil, length, get_or, drop, reverse, flat_map, if◌then◌else◌, refl, sym, ap, rules}
+use Rattle.std.proofs.Common.{◌≡◌, ◌≢◌, ◌∙◌, ℕ, suc, ◌+◌, ◌<◌, arith, Bool, true, ◌==◌, List, [], ◌∷◌, ◌++◌, append_assoc, append-nil, length, get_or, drop, reverse, if◌then◌else◌, refl, sym, ap, rules}
 use Rattle.std.proofs.lemmas.Bool.{ne_eqb}
 use Rattle.std.proofs.lemmas.List.{drop_more, reverse-append}
 use Rattle.std.proofs.lemmas.List.Concat.{flat_map-append}

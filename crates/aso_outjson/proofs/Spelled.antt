@@ -1,8 +1,7 @@
 -- A text that spells a formula has no fault.
-use Rattle.std.proofs.Common.{◌≡◌, ◌∙◌, ℕ, true, false, List, [], ◌∷◌, ◌++◌, append_assoc, append-nil, refl, sym, ap, subst}
+use Rattle.std.proofs.Common.{◌≡◌, ◌∙◌, ℕ, true, false, List, [], ◌∷◌, ◌++◌, append_assoc, append-nil, sym, subst}
 use Rattle.std.proofs.lemmas.List.{map-append}
 use Rattle.aso_token.specs.declared.token.Placed.{Placed}
-use Rattle.aso_token.specs.declared.token.Token.{Token}
 use Rattle.aso_token.specs.declared.cutting.Cut.{Cut}
 use Rattle.aso_token.specs.Cutting.{cut}
 use Rattle.aso_token.specs.Reads.{tokens_of}

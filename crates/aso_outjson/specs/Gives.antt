@@ -1,6 +1,6 @@
 -- What a function that reads a part answers.
 use Rattle.std.specs.Prelude.{◌≡◌, ℕ, List, ◌∷◌, ◌++◌, Result, Ok, Err, ⊤}
-use Rattle.aso_outjson.specs.Fields.{Found, Path, ◌>>=◌}
+use Rattle.aso_outjson.specs.Fields.{Found, ◌>>=◌}
 use Rattle.aso_outjson.specs.declared.trouble.Trouble.{Trouble}
 use Rattle.aso_outjson.specs.declared.trouble.Trouble.TheVariants.{Memory, Fault}
 

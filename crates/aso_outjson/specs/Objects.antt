@@ -1,6 +1,6 @@
 -- The outline that a JSON value writes, or the place of its first fault: each object by its fields in their order, and then
 -- whatever else it has.
-use Rattle.std.specs.Prelude.{List, [], Ok, codes}
+use Rattle.std.specs.Prelude.{[], Ok, codes}
 use Rattle.serde_json.specs.Data.{Data}
 use Rattle.aso_outline.specs.declared.draft.Aggregate.TheVariants.{All}
 use Rattle.aso_outjson.specs.Fields.{Found, ◌>>=◌, list_in, may, need, no_others, object_in, text_in, word_in}

@@ -1,5 +1,5 @@
 -- The names of fields, and the words and numbers that a field may have.
-use Rattle.std.specs.Prelude.{ℕ, ◌||◌, ◌^◌, ◌-◌, min, nat_le, Bool, List, Option, Some, None, option_and_then, if◌then◌else◌, codes}
+use Rattle.std.specs.Prelude.{ℕ, ◌||◌, ◌^◌, ◌-◌, min, nat_le, Bool, Option, Some, None, option_and_then, if◌then◌else◌, codes}
 use Rattle.serde_json.specs.Data.{Data}
 use Rattle.serde_json.specs.Find.{as_number, as_u64}
 use Rattle.aso_outline.specs.Members.{Name, same_name}

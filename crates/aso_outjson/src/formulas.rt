@@ -39,13 +39,8 @@ fn formula(alloc: Global, number: u32, text: Option<Text>) -> Result<Option<Expr
         }),
         Err(FormulaFault::NoMemory(e)) => Err(JsonFault::NoMemory(e)),
         // It looks no member up.
-        Err(
-            FormulaFault::Unknown {
-                name: _name,
-                at: _at,
-            },
-        ) => unreachable!(),
-        Err(FormulaFault::Foreign { at: _at }) => unreachable!(),
+        Err(FormulaFault::Unknown { .. }) => unreachable!(),
+        Err(FormulaFault::Foreign { .. }) => unreachable!(),
     }
 }
 

@@ -1,5 +1,4 @@
-use Rattle.std.proofs.Common.{◌≡◌, ◌∙◌, ◌+◌, ◌-◌, ◌<◌, arith, ap, sym, subst, List, ℕ, ◌++◌, ◌∷◌, drop, length, reverse, get_or, string_bytes, rules}
-use Rattle.aso_outjson.specs.Pointer.{escaped, pointer}
+use Rattle.std.proofs.Common.{◌≡◌, ◌-◌, arith, get_or, string_bytes, rules}
 use Rattle.aso_outjson.proofs.Pointers.{pointer_next}
 use Rattle.aso_outjson.proofs.pointer.pointer.Goals as goal
 

@@ -1,4 +1,4 @@
-use Rattle.std.proofs.Common.{arith, ◌∙◌, ap, sym, List, ℕ, ◌++◌, ◌∷◌, [], string_bytes, Some, None, length, length-append}
+use Rattle.std.proofs.Common.{arith, ◌∙◌, ap, sym, List, ℕ, ◌++◌, ◌∷◌, string_bytes, Some, None, length, length-append}
 use Rattle.std.proofs.lemmas.Str.Pattern.{split_parts}
 use Rattle.aso_outjson.specs.Pointer.{put_for}
 use Rattle.aso_outjson.proofs.Pointers.{regroup, to_end, to_mark}

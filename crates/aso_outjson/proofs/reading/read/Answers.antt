@@ -1,7 +1,5 @@
-use Rattle.std.proofs.Common.{IfErr, IfOk}
 use Rattle.std.proofs.lemmas.Result.{err_from_is_err_and}
 use Rattle.serde_json.specs.View.{view}
-use Rattle.aso_outjson.specs.Answers.{IsOutline, IsRefusal}
 use Rattle.aso_outjson.proofs.Once.{found_outline, only, only_fault, refused_field, refused_formula, refused_json, refused_outline, writes}
 use Rattle.aso_outjson.proofs.reading.read.Goals as goal
 
