@@ -11,6 +11,3 @@ mod text;
 pub use fault::FormulaFault;
 pub use printing::print;
 pub use text::{parse, read};
-
-#[cfg(test)]
-mod tests;
