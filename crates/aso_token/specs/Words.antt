@@ -1,19 +1,10 @@
 -- What the tokens of queries and statements stand for.
-use Rattle.std.specs.Prelude.{◌≡◌, ℕ, Bool, true, false, List, [], ◌∷◌, length, Option, Some, None, if◌then◌else◌, ◌==◌, nat_le, ◌&&◌}
+use Rattle.std.specs.Prelude.{◌≡◌, ℕ, Bool, true, false, List, length, Option, Some, None, if◌then◌else◌, ◌==◌, nat_le, ◌&&◌}
 use Rattle.std.specs.Str.{str_eq_ignore_ascii_case}
 use Rattle.aso_num.specs.AmountText.{number, digits_len}
 use Rattle.aso_token.specs.declared.token.Token.{Token}
-use Rattle.aso_token.specs.declared.token.Token.TheVariants.{Word, Number, Quoted, Name, Mark}
+use Rattle.aso_token.specs.declared.token.Token.TheVariants.{Word, Number, Name, Mark}
 use Rattle.aso_token.specs.declared.token.Mark.TheVariants.{Dot, Comma, Open, Close, OpenSet, CloseSet, Plus, Minus, Star, Slash, Equals}
-
--- each doubled quote is one: the byte behind a quote is its double
-abbrev pub single_quotes : Bool → List ℕ → List ℕ
-single_quotes behind [] = []
-single_quotes true (b ∷ bs) = single_quotes false bs
-single_quotes false (b ∷ bs) = b ∷ single_quotes (b == 39) bs
-
-abbrev pub undoubled : List ℕ → List ℕ
-undoubled text = single_quotes false text
 
 abbrev pub known : {A : Type 0} → Bool → A → Option A
 known b a = if b then Some a else None
@@ -25,16 +16,6 @@ is_word w _ = false
 
 abbrev pub key : List ℕ → Token → Option (Unit {0})
 key w t = known (is_word w t) tt
-
--- a word or a quoted text
-abbrev pub plain_name : Token → Option (List ℕ)
-plain_name (Word text) = Some text
-plain_name (Quoted text) = Some (undoubled text)
-plain_name _ = None
-
-abbrev pub quoted : Token → Option (List ℕ)
-quoted (Quoted text) = Some (undoubled text)
-quoted _ = None
 
 -- a part of a member: a word or a bracketed name
 abbrev pub part : Token → Option (List ℕ)
