@@ -11,3 +11,6 @@ mod text;
 pub use fault::FormulaFault;
 pub use printing::print;
 pub use text::{parse, read};
+
+#[cfg(test)]
+mod tests;
