@@ -14,3 +14,6 @@ pub use buffer::Buffer;
 pub use fault::BufferFault;
 pub use kind::Kind;
 pub use records::Records;
+
+#[cfg(test)]
+mod tests;

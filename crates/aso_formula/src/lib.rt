@@ -13,4 +13,6 @@ pub use printing::print;
 pub use text::{parse, read};
 
 #[cfg(test)]
+mod read_tests;
+#[cfg(test)]
 mod tests;
