@@ -12,7 +12,7 @@ ghost use Rattle.aso_outline.specs.Rules.{is_atom};
 ghost use Rattle.aso_outline.specs.Small.{HasTrees};
 
 use crate::atoms::atoms_of;
-use crate::draft::{Draft, Extra, ExtraMember};
+use crate::draft::{Draft, Expr, Extra, ExtraMember};
 use crate::formulas::is_atom;
 use crate::needs::push_operands;
 use crate::outline::Outline;
@@ -132,6 +132,26 @@ fn first_foreign(
     Ok(None)
 }
 
+/// The first of the atoms that isn't one of a formula in the dimension of the outline.
+fn foreign_in(
+    alloc: Global,
+    outline: &Outline,
+    dim: u32,
+    all: &[&[Text]],
+) -> Result<Option<usize>, NoMemory>
+    ensures { IfOk result (λ r. r ≡ first_foreign outline.now dim (map (λ a. a.now) all.now)) }
+{
+    let draft = outline.sound_draft();
+    first_foreign(
+        alloc,
+        draft,
+        outline.tables().seats.as_slice(),
+        outline.names(),
+        dim,
+        all,
+    )
+}
+
 /// The greatest rank of some members; 0 where there is none.
 fn greatest_rank(outline: &Outline, members: &[usize]) -> u32
     ensures value { result ≡ greatest (map (rank_of outline.now) members.now) }
@@ -161,14 +181,7 @@ fn check_atoms(alloc: Global, outline: &Outline, member: &ExtraMember) -> Result
         let name = Text::of(String::from_str(alloc, name.as_str()).map_err(NoMemory::from)?);
         return Err(ExtraFault::Unknown { name });
     }
-    let foreign = first_foreign(
-        alloc,
-        outline.sound_draft(),
-        outline.tables().seats.as_slice(),
-        outline.names(),
-        member.dim,
-        all.as_slice(),
-    )?;
+    let foreign = foreign_in(alloc, outline, member.dim, all.as_slice())?;
     match foreign {
         Some(atom) => Err(foreign_fault(atom)),
         None => Ok(()),
@@ -217,7 +230,7 @@ fn push_member(extra: &mut Extra, member: ExtraMember) -> Result<(), NoMemory>
 impl Outline {
     ghost use Rattle.std.specs.Prelude.{◌≡◌, ◌<◌, ◌≤◌, ◌∷◌, ◌++◌, [], ℕ, length, OnOk, OnErr, IfOk, IfErr};
     ghost use Rattle.aso_outline.specs.Atoms.{atoms};
-    ghost use Rattle.aso_outline.specs.Extend.{AreOwn, IsExtraFault, IsOwn, own_rank};
+    ghost use Rattle.aso_outline.specs.Extend.{AreOwn, IsExtraFault, IsOwn, first_foreign, own_rank};
     ghost use Rattle.aso_outline.specs.Ranks.{rank_of};
 
     /// The rank of a member; 0 where there is no member.
@@ -231,6 +244,19 @@ impl Outline {
             self.keeps_ranks();
             0
         }
+    }
+
+    /// The first atom of a formula, counted from 0, that isn't one of a formula in the base dimension.
+    pub fn first_foreign(
+        &self,
+        alloc: Global,
+        dim: u32,
+        formula: &Expr,
+    ) -> Result<Option<usize>, NoMemory>
+        ensures { IfOk result (λ r. r ≡ first_foreign self.now dim (atoms formula.now)) }
+    {
+        let all = atoms_of(alloc, formula)?;
+        foreign_in(alloc, self, dim, all.as_slice())
     }
 
     /// The rank of a query's own member: one more than the greatest rank of the members of its dimension that its formula names.
