@@ -13,6 +13,4 @@ pub use printing::print;
 pub use text::{parse, read};
 
 #[cfg(test)]
-mod read_tests;
-#[cfg(test)]
 mod tests;
