@@ -4,7 +4,7 @@ ghost use Rattle.aso_keys.specs.Views.{IsBase, IsView};
 ghost use Rattle.aso_load.specs.Leaves.{StandAtLeaves};
 
 use crate::loads::rules;
-use crate::outlines::outline;
+use crate::outlines::{outline, wide};
 use aso_buffer::{Buffer, BufferFault, Kind};
 use aso_keys::{Layout, View, view_of};
 use aso_load::load;
@@ -16,24 +16,6 @@ use std::alloc::{AllocError, Global};
 use std::fmt::Write;
 use std::process::Abort;
 use std::test::Fail;
-
-/// So many dimensions, each of so many leaves below its own member: `D0m0`, `D0m1` and so on.
-fn dims(alloc: Global, count: usize, leaves: usize) -> Result<String, AllocError> {
-    let mut text = String::new(alloc);
-    for dim in 0..count {
-        let comma = if dim == 0 { "" } else { "," };
-        write!(
-            text,
-            "{comma}{{'name':'D{dim}','hierarchies':[{{'kind':'stored','root':{{'name':'D{dim}','children':["
-        )?;
-        for leaf in 0..leaves {
-            let comma = if leaf == 0 { "" } else { "," };
-            write!(text, "{comma}{{'name':'D{dim}m{leaf}'}}")?;
-        }
-        text.push_str("]}}]}")?;
-    }
-    Ok(text)
-}
 
 fn base(alloc: Global, outline: &Outline) -> Result<View, Fail>
     ensures view { IfOk result (λ v. IsView outline.now v.choices) }
@@ -192,7 +174,7 @@ const LOADS: &[(Kind, &str, &str, &str)] = &[
 #[test]
 fn loads_are_combined(rt: HostRuntime) -> Result<(), Fail> {
     let alloc = rt.alloc();
-    let outline = outline(alloc, &dims(alloc, 3, 4)?, "")?;
+    let outline = outline(alloc, &wide(alloc, 3, 4, 4)?, "")?;
     let rules = rules(alloc, &outline, RULES)?;
     for (kind, first, second, want) in LOADS {
         let one = told::<1>(&rt, alloc, &outline, &rules, *kind, first, second)?;
@@ -218,7 +200,7 @@ fn wide_rules(alloc: Global) -> Result<String, AllocError> {
 #[test]
 fn keys_of_two_words(rt: HostRuntime) -> Result<(), Fail> {
     let alloc = rt.alloc();
-    let outline = outline(alloc, &dims(alloc, 16, 17)?, "")?;
+    let outline = outline(alloc, &wide(alloc, 16, 17, 17)?, "")?;
     let rules = rules(alloc, &outline, &wide_rules(alloc)?)?;
     let found = told::<2>(
         &rt,

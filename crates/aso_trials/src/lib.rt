@@ -1,5 +1,5 @@
-//! Trials of the layers together, on outlines as users write them: formulas, values, data files and load buffers. It holds tests
-//! alone, as tables of texts.
+//! Trials of the layers together, on outlines as users write them: rules, members, formulas, values, data files and load buffers.
+//! It holds tests alone, as tables of texts.
 #![tactic(auto)]
 
 #[cfg(test)]
@@ -9,7 +9,11 @@ mod formulas;
 #[cfg(test)]
 mod loads;
 #[cfg(test)]
+mod members;
+#[cfg(test)]
 mod outlines;
+#[cfg(test)]
+mod rules;
 #[cfg(test)]
 mod tuples;
 #[cfg(test)]

@@ -2,6 +2,7 @@
 use aso_outjson::read;
 use aso_outline::Outline;
 use std::alloc::{AllocError, Global};
+use std::fmt::Write;
 use std::test::Fail;
 
 /// The base dimensions of the Basic outline of docs/FORMATS.md. With Size it has 23 members: Year 0, Jan 1, Feb 2, Market 3, Total 4,
@@ -38,4 +39,26 @@ pub fn outline(alloc: Global, dims: &str, attrs: &str) -> Result<Outline, Fail> 
         Ok(outline) => Ok(outline),
         Err(_fault) => Err(Fail::from("refused")),
     }
+}
+
+/// So many dimensions, each of so many leaves below its own member, `D0m0`, `D0m1` and so on; the last one has so many.
+pub fn wide(alloc: Global, count: u32, leaves: u32, last: u32) -> Result<String, AllocError> {
+    let mut text = String::new(alloc);
+    for dim in 0..count {
+        let comma = if dim == 0 { "" } else { "," };
+        write!(
+            text,
+            "{comma}{{'name':'D{dim}','hierarchies':[{{'kind':'stored','root':{{'name':'D{dim}','children':[{{'name':'D{dim}m0'}}"
+        )?;
+        let own = if dim.saturating_add(1) == count {
+            last
+        } else {
+            leaves
+        };
+        for leaf in 1..own {
+            write!(text, ",{{'name':'D{dim}m{leaf}'}}")?;
+        }
+        text.push_str("]}}]}")?;
+    }
+    Ok(text)
 }
