@@ -9,12 +9,11 @@ use std::fmt::Write;
 use std::process::Abort;
 use std::test::Fail;
 
-const DIMS: &str = "{'name':'Year','hierarchies':[{'kind':'stored','root':
-    {'name':'Year','children':[{'name':'Jan'},{'name':'Feb'}]}}]},
-  {'name':'Market','hierarchies':[{'kind':'stored','root':{'name':'Market','children':[
-    {'name':'East','children':[{'name':'NY'},{'name':'MA'}]},{'name':'CA'}]}}]},
-  {'name':'Measures','hierarchies':[{'kind':'stored','root':
-    {'name':'Measures','children':[{'name':'Sales'},{'name':'Cost'}]}}]}";
+const DIMS: &str =
+    "{'hierarchies':[{'root':{'name':'Year','children':[{'name':'Jan'},{'name':'Feb'}]},'kind':'stored'}],'name':'Year'},
+  {'hierarchies':[{'root':{'name':'Market','children':[
+    {'name':'East','children':[{'name':'NY'},{'name':'MA'}]},{'name':'CA'}]},'kind':'stored'}],'name':'Market'},
+  {'hierarchies':[{'root':{'name':'Measures','children':[{'name':'Sales'},{'name':'Cost'}]},'kind':'stored'}],'name':'Measures'}";
 
 /// The rules of a text in which ' stands for ".
 pub fn rules(alloc: Global, outline: &Outline, text: &str) -> Result<Rules, Fail> {
@@ -57,7 +56,7 @@ fn told(alloc: Global, loaded: &Loaded) -> Result<String, AllocError> {
 type Trial = (&'static str, &'static [u8], &'static str);
 
 const FEB: &str =
-    "{'delimiter':'|','columns':[{'dimension':'Market','replace':[['N.Y.','NY']]},{'data':['Sales']},{'data':['Cost']}],'fixed':['Feb']}";
+    "{'fixed':['Feb'],'columns':[{'replace':[['N.Y.','NY']],'dimension':'Market'},{'data':['Sales']},{'data':['Cost']}],'delimiter':'|'}";
 
 const COMMA: &str =
     "{'header_records':1,'columns':[{'dimension':'Market'},{'ignore':true},{'data':['Sales','Jan']}]}";

@@ -5,24 +5,24 @@ use std::alloc::{AllocError, Global};
 use std::fmt::Write;
 use std::test::Fail;
 
-/// The base dimensions of the Basic outline of docs/FORMATS.md. With Size it has 23 members: Year 0, Jan 1, Feb 2, Market 3, Total 4,
-/// East 5, NY 6, MA 7, CA 8, Big 9 with 10 and 11, Sum 12 with 13 and 14, Measures 15, Sales 16, Cost 17, Margin 18, Pct 19, Size 20,
-/// Large 21, Small 22.
-pub const BASIC: &str = "{'name':'Year','hierarchies':[{'kind':'stored','root':
-    {'name':'Year','children':[{'name':'Jan'},{'name':'Feb'}]}}]},
-  {'name':'Market','hierarchies':[
-    {'kind':'stored','root':{'name':'Total','children':[
-      {'name':'East','children':[{'name':'NY','attributes':['Large']},{'name':'MA','attributes':['Small']}]},
-      {'name':'CA','attributes':['Small']}]}},
-    {'kind':'stored','root':{'name':'Big','children':[{'name':'NY','shared':true},{'name':'CA','shared':true}]}},
-    {'kind':'dynamic','root':{'name':'Sum','children':[{'name':'NY','shared':true},{'name':'CA','shared':true}]}}]},
-  {'name':'Measures','hierarchies':[{'kind':'dynamic','root':{'name':'Measures','label_only':true,'children':[
-    {'name':'Sales'},{'name':'Cost'},{'name':'Margin','formula':'[Sales] - [Cost]'},
-    {'name':'Pct','formula':'([Sales] - [Cost]) / [Sales] * 100'}]}}]}";
+/// The base dimensions of the Basic outline of docs/FORMATS.md. With Size it has 23 members: Year is 0, with Jan and Feb behind it;
+/// Market is 3, its trees are Total at 4 with East, NY, MA and CA behind it, Big at 9 and Sum at 12, each with NY and CA shared;
+/// Measures is 15, with Sales, Cost, Margin and Pct; Size is 20, with Large and Small.
+pub const BASIC: &str =
+    "{'hierarchies':[{'root':{'name':'Year','children':[{'name':'Jan'},{'name':'Feb'}]},'kind':'stored'}],'name':'Year'},
+  {'hierarchies':[
+    {'root':{'name':'Total','children':[
+      {'name':'East','children':[{'attributes':['Large'],'name':'NY'},{'attributes':['Small'],'name':'MA'}]},
+      {'attributes':['Small'],'name':'CA'}]},'kind':'stored'},
+    {'root':{'name':'Big','children':[{'shared':true,'name':'NY'},{'shared':true,'name':'CA'}]},'kind':'stored'},
+    {'root':{'name':'Sum','children':[{'shared':true,'name':'NY'},{'shared':true,'name':'CA'}]},'kind':'dynamic'}],'name':'Market'},
+  {'hierarchies':[{'root':{'label_only':true,'name':'Measures','children':[
+    {'name':'Sales'},{'name':'Cost'},{'formula':'[Sales] - [Cost]','name':'Margin'},
+    {'formula':'([Sales] - [Cost]) / [Sales] * 100','name':'Pct'}]},'kind':'dynamic'}],'name':'Measures'}";
 
 /// Its attribute dimension.
 pub const SIZE: &str =
-    "{'name':'Size','base':'Market','root':{'name':'Size','children':[{'name':'Large'},{'name':'Small'}]}}";
+    "{'root':{'children':[{'name':'Large'},{'name':'Small'}],'name':'Size'},'base':'Market','name':'Size'}";
 
 /// The JSON text with these dimensions and attribute dimensions.
 pub fn json(alloc: Global, dims: &str, attrs: &str) -> Result<String, AllocError> {

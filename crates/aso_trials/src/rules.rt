@@ -7,7 +7,7 @@ use std::test::Fail;
 
 /// Its members are numbered 0 to 2, so those of the dimensions behind it begin with 3.
 const YEAR: &str =
-    "{'name':'Year','hierarchies':[{'kind':'stored','root':{'name':'Year','children':[{'name':'Jan'},{'name':'Feb'}]}}]}";
+    "{'hierarchies':[{'root':{'name':'Year','children':[{'name':'Jan'},{'name':'Feb'}]},'kind':'stored'}],'name':'Year'}";
 
 fn told(alloc: Global, dims: &str, attrs: &str) -> Result<String, AllocError> {
     let text = json(alloc, dims, attrs)?;
