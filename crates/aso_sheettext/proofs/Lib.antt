@@ -1,0 +1,7 @@
+pub mod Ascii
+pub mod Codes
+pub mod Outlines
+pub mod Parts
+pub mod Pieces
+pub mod Runs
+pub mod Sheets
