@@ -72,7 +72,7 @@ no_member zero name line dim dot h = dim name h
 no_member (suc d) name line dim dot h = dot (replicate d 46 ++ name) h.0
 
 pub no_part : (line : List ℕ) → ((rest : List ℕ) → line ≢ codes "database " ++ rest) → ((rest : List ℕ) → line ≢ codes "dim " ++ rest) → ((rest : List ℕ) → line ≢ 46 ∷ rest)
-  → ((rest : List ℕ) → line ≢ codes "cell " ++ rest) → ((rest : List ℕ) → line ≢ codes "columns " ++ rest) → ((rest : List ℕ) → line ≢ codes "rows " ++ rest) → (p : Part) → IsWritten p line → ⊥
+    → ((rest : List ℕ) → line ≢ codes "cell " ++ rest) → ((rest : List ℕ) → line ≢ codes "columns " ++ rest) → ((rest : List ℕ) → line ≢ codes "rows " ++ rest) → (p : Part) → IsWritten p line → ⊥
 no_part line database dim dot cell columns rows (Database app db) h = database (app ++ 46 ∷ db) h.0
 no_part line database dim dot cell columns rows (OneMember m) h = no_member m.depth m.name line dim dot h
 no_part line database dim dot cell columns rows (OneCell c) h = cell h.0 h.2

@@ -1,5 +1,6 @@
 pub mod Ascii
 pub mod Codes
+mod Examples
 pub mod Outlines
 pub mod Parts
 pub mod Pieces

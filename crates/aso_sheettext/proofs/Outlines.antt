@@ -46,7 +46,7 @@ nested_snoc last (n ∷ ms) m nested fits = (nested.0, nested_snoc (Some n.depth
 -- ---- one part more
 
 name_keeps : (ps : List Part) (named : Bool) (last : Option ℕ) (out : Outline) (app db : Name) (t : OutlineSoFar)
-  → IsOutlineSoFar ps (record { named = named; last = last; outline = out }) → outline_with (record { named = named; last = last; outline = out }) (Database app db) ≡ Some t → IsOutlineSoFar (ps ++ Database app db ∷ []) t
+    → IsOutlineSoFar ps (record { named = named; last = last; outline = out }) → outline_with (record { named = named; last = last; outline = out }) (Database app db) ≡ Some t → IsOutlineSoFar (ps ++ Database app db ∷ []) t
 name_keeps ps true last out app db t so_far h = absurd (cc)
 name_keeps ps false (Some d) out app db t so_far h = absurd (cc)
 name_keeps ps false None out app db t so_far h =
@@ -66,8 +66,8 @@ members_snoc [] m = refl
 members_snoc (n ∷ ms) m = ap (λ (xs : List Part). OneMember n ∷ xs) (members_snoc ms m)
 
 more_parts : (app db : Name) (ps : List Part) (ms : List Member) (m : Member)
-  → (ps ≡ Database app db ∷ map OneMember ms) ⊎ ((app ≡ codes "Sample") × (db ≡ codes "Basic") × (ps ≡ map OneMember ms))
-  → (ps ++ OneMember m ∷ [] ≡ Database app db ∷ map OneMember (ms ++ m ∷ [])) ⊎ ((app ≡ codes "Sample") × (db ≡ codes "Basic") × (ps ++ OneMember m ∷ [] ≡ map OneMember (ms ++ m ∷ [])))
+    → (ps ≡ Database app db ∷ map OneMember ms) ⊎ ((app ≡ codes "Sample") × (db ≡ codes "Basic") × (ps ≡ map OneMember ms))
+    → (ps ++ OneMember m ∷ [] ≡ Database app db ∷ map OneMember (ms ++ m ∷ [])) ⊎ ((app ≡ codes "Sample") × (db ≡ codes "Basic") × (ps ++ OneMember m ∷ [] ≡ map OneMember (ms ++ m ∷ [])))
 more_parts app db ps ms m (inl h) = inl (ap (λ (xs : List Part). xs ++ OneMember m ∷ []) h ∙ ap (λ (xs : List Part). Database app db ∷ xs) (members_snoc ms m))
 more_parts app db ps ms m (inr h) = inr (h.0, h.1, ap (λ (xs : List Part). xs ++ OneMember m ∷ []) h.2 ∙ members_snoc ms m)
 
@@ -100,15 +100,14 @@ outline_begins ps o lines so_far are = ([], o.outline, (ps, so_far.makes, subst 
 -- ---- all parts of an outline are read
 
 members_read : (ms : List Member) (named : Bool) (last : Option ℕ) (out : Outline) → AreNested (most_after last) ms
-  → (t : OutlineSoFar) × (run outline_with (Some (record { named = named; last = last; outline = out })) (map OneMember ms) ≡ Some t) × (t.outline ≡ record { app = out.app; db = out.db; members = out.members ++ ms })
+    → (t : OutlineSoFar) × (run outline_with (Some (record { named = named; last = last; outline = out })) (map OneMember ms) ≡ Some t) × (t.outline ≡ record { app = out.app; db = out.db; members = out.members ++ ms })
 members_read [] named last out nested =
     (record { named = named; last = last; outline = out }, refl, ap (λ (ms : List Member). let o : Outline = record { app = out.app; db = out.db; members = ms } in o) (sym (append-nil out.members)))
 members_read (m ∷ ms) named last out nested =
     let after : Outline = record { app = out.app; db = out.db; members = out.members ++ m ∷ [] } in
     let rest = members_read ms named (Some m.depth) after nested.1 in
     let fits : nat_le m.depth (most_after last) ≡ true = le-leb m.depth (most_after last) nested.0 in
-    let soon : OutlineSoFar = record { named = named; last = Some m.depth; outline = after } in
-    (
+    let soon : OutlineSoFar = record { named = named; last = Some m.depth; outline = after } in (
       rest.0,
       ap (λ (b : Bool). run outline_with (if b then Some soon else None) (map OneMember ms)) fits ∙ rest.1,
       rest.2 ∙ ap (λ (xs : List Member). let o : Outline = record { app = out.app; db = out.db; members = xs } in o) (append_assoc out.members (m ∷ []) ms),
@@ -121,8 +120,8 @@ abbrev outline_of : Name → Name → List Member → Outline
 outline_of app db members = record { app = app; db = db; members = members }
 
 outline_parts_read : (ps : List Part) (o : Outline) → AreNested 0 o.members
-  → (ps ≡ Database o.app o.db ∷ map OneMember o.members) ⊎ ((o.app ≡ codes "Sample") × (o.db ≡ codes "Basic") × (ps ≡ map OneMember o.members))
-  → (t : OutlineSoFar) × (run outline_with (Some outline_start) ps ≡ Some t) × (t.outline ≡ o)
+    → (ps ≡ Database o.app o.db ∷ map OneMember o.members) ⊎ ((o.app ≡ codes "Sample") × (o.db ≡ codes "Basic") × (ps ≡ map OneMember o.members))
+    → (t : OutlineSoFar) × (run outline_with (Some outline_start) ps ≡ Some t) × (t.outline ≡ o)
 outline_parts_read ps o nested (inl h) =
     let rest = members_read o.members true None (record { app = o.app; db = o.db; members = [] }) nested in
     (rest.0, ap (run outline_with (Some outline_start)) h ∙ rest.1, rest.2)

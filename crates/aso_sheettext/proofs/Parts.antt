@@ -129,6 +129,6 @@ takes_part step old new p line true is takes = (p, is, takes)
 takes_part {S} step old new p line false is takes = λ q other. ap (step old) (part_once q p line other.1 is.1) ∙ takes
 
 pub takes_result : {S E : Type 0} (step : S → Part → Option S) (old new : S) (p : Part) (line : List ℕ) (r : Result Bool E) → IsUtf8 line → IsWritten p line
-  → IfOk r (λ taken. TakesPart step old p taken new) → IfOk r (λ taken. TakesLine step old line taken new)
+    → IfOk r (λ taken. TakesPart step old p taken new) → IfOk r (λ taken. TakesLine step old line taken new)
 takes_result step old new p line (Ok taken) text is h = takes_part step old new p line taken (text, is) h
 takes_result step old new p line (Err e) text is h = tt

@@ -31,7 +31,7 @@ nothing_left : (text : List ℕ) (n : ℕ) → length text ≤ n → lines_from 
 nothing_left text n past = no_lines (drop n text) n (omega (arith, length-drop n text))
 
 pub last_piece : (text piece : List ℕ) (at : ℕ) → piece ≡ drop at text → position_or_len (λ b. b == 10) piece ≡ length piece
-  → lines_from at (drop at text) ≡ (if is_said piece then record { at = at; bytes = piece } ∷ [] else []) ++ lines_from (length text) (drop (length text) text)
+    → lines_from at (drop at text) ≡ (if is_said piece then record { at = at; bytes = piece } ∷ [] else []) ++ lines_from (length text) (drop (length text) text)
 last_piece text piece at same none =
     let whole : slice_split (λ b. b == 10) piece ≡ piece ∷ [] = slice_split_none (λ (b : ℕ). b == 10) piece (λ k d below. fails_before_first (λ (b : ℕ). b == 10) piece k d (omega (arith, none, below))) in
     let one : Line = record { at = at; bytes = piece } in
@@ -62,13 +62,13 @@ placed_front p at piece rest =
     ∙ ap (λ (parts : List (List ℕ)). let one : Line = record { at = at; bytes = without_return piece } in one ∷ placed (at + length piece + 1) parts) (sym some.2)
 
 pub ended_piece : (text bytes : List ℕ) (at size : ℕ) → at ≤ length text → position_or_len (λ b. b == 10) (drop at text) ≡ size → size < length (drop at text) → bytes ≡ without_return (take size (drop at text))
-  → lines_from at (drop at text) ≡ (if is_said bytes then record { at = at; bytes = bytes } ∷ [] else []) ++ lines_from (at + size + 1) (drop (at + size + 1) text)
+    → lines_from at (drop at text) ≡ (if is_said bytes then record { at = at; bytes = bytes } ∷ [] else []) ++ lines_from (at + size + 1) (drop (at + size + 1) text)
 ended_piece text bytes at size within is some same =
     let rest = drop at text in
     let p : ℕ → Bool = λ b. b == 10 in
     let further : position_or_len p rest < length rest = omega (arith, is, some) in
     let parts : slice_split p rest ≡ take size rest ∷ slice_split p (drop (size + 1) rest) =
-      slice_split_first p rest 0 further ∙ ap (λ (n : ℕ). take n rest ∷ slice_split p (drop (n + 1) rest)) is
+    slice_split_first p rest 0 further ∙ ap (λ (n : ℕ). take n rest ∷ slice_split p (drop (n + 1) rest)) is
     in
     let width : length (take size rest) ≡ size = length-take-le size rest (omega (arith, some)) in
     let one : Line = record { at = at; bytes = bytes } in

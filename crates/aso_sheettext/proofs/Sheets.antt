@@ -39,8 +39,8 @@ joined ps first cells axes p h =
     ap (λ (xs : List Part). xs ++ p ∷ []) h ∙ append_assoc first (cells ++ axes) (p ∷ []) ∙ ap (λ (xs : List Part). first ++ xs) (append_assoc cells axes (p ∷ []))
 
 in_outline_keeps : (ps : List Part) (stage : Stage) (o t : OutlineSoFar) (cells : List Cell) (columns rows : List Name) (p : Part)
-  → IsSheetSoFar ps (record { stage = stage; outline = o; cells = cells; columns = columns; rows = rows }) → is_in_outline stage ≡ true → outline_with o p ≡ Some t
-  → IsSheetSoFar (ps ++ p ∷ []) (record { stage = stage; outline = t; cells = cells; columns = columns; rows = rows })
+    → IsSheetSoFar ps (record { stage = stage; outline = o; cells = cells; columns = columns; rows = rows }) → is_in_outline stage ≡ true → outline_with o p ≡ Some t
+    → IsSheetSoFar (ps ++ p ∷ []) (record { stage = stage; outline = t; cells = cells; columns = columns; rows = rows })
 in_outline_keeps ps InOutline o t cells columns rows p so_far is_in h =
     let none : cells ≡ [] = so_far.no_cell refl in
     let before : ps ≡ so_far.first = so_far.parts ∙ ap (λ (cs : List Cell). so_far.first ++ (map OneCell cs ++ [])) none ∙ append-nil so_far.first in
@@ -55,7 +55,7 @@ in_outline_keeps ps AtRows o t cells columns rows p so_far is_in h = absurd (cc)
 in_outline_keeps ps AtEnd o t cells columns rows p so_far is_in h = absurd (cc)
 
 with_some : (s t : SheetSoFar) (o : Option OutlineSoFar) → with_outline s o ≡ Some t
-  → (u : OutlineSoFar) × (o ≡ Some u) × (record { stage = s.stage; outline = u; cells = s.cells; columns = s.columns; rows = s.rows } ≡ t)
+    → (u : OutlineSoFar) × (o ≡ Some u) × (record { stage = s.stage; outline = u; cells = s.cells; columns = s.columns; rows = s.rows } ≡ t)
 with_some s t None h = absurd (cc)
 with_some s t (Some u) h = (u, refl, (cc))
 
@@ -70,52 +70,52 @@ outline_part_keeps ps s t p so_far h =
     subst (λ (u : SheetSoFar). IsSheetSoFar (ps ++ p ∷ []) u) some.2 (in_outline_keeps ps s.stage s.outline some.0 s.cells s.columns s.rows p so_far both.0 some.1)
 
 cell_keeps : (ps : List Part) (stage : Stage) (o : OutlineSoFar) (cells : List Cell) (columns rows : List Name) (c : Cell)
-  → IsSheetSoFar ps (record { stage = stage; outline = o; cells = cells; columns = columns; rows = rows }) → is_before_axes stage ≡ true
-  → IsSheetSoFar (ps ++ OneCell c ∷ []) (record { stage = InCells; outline = o; cells = cells ++ c ∷ []; columns = columns; rows = rows })
+    → IsSheetSoFar ps (record { stage = stage; outline = o; cells = cells; columns = columns; rows = rows }) → is_before_axes stage ≡ true
+    → IsSheetSoFar (ps ++ OneCell c ∷ []) (record { stage = InCells; outline = o; cells = cells ++ c ∷ []; columns = columns; rows = rows })
 cell_keeps ps InOutline o cells columns rows c so_far before = record {
-    first = so_far.first;
-    outline = so_far.outline;
-    parts = joined ps so_far.first (map OneCell cells) [] (OneCell c) so_far.parts ∙ ap (λ (xs : List Part). so_far.first ++ xs) (cells_snoc cells c ∙ sym (append-nil (map OneCell (cells ++ c ∷ []))));
-    no_cell = λ no. absurd (cc);
-  }
+  first = so_far.first;
+  outline = so_far.outline;
+  parts = joined ps so_far.first (map OneCell cells) [] (OneCell c) so_far.parts ∙ ap (λ (xs : List Part). so_far.first ++ xs) (cells_snoc cells c ∙ sym (append-nil (map OneCell (cells ++ c ∷ []))));
+  no_cell = λ no. absurd (cc);
+}
 cell_keeps ps InCells o cells columns rows c so_far before = record {
-    first = so_far.first;
-    outline = so_far.outline;
-    parts = joined ps so_far.first (map OneCell cells) [] (OneCell c) so_far.parts ∙ ap (λ (xs : List Part). so_far.first ++ xs) (cells_snoc cells c ∙ sym (append-nil (map OneCell (cells ++ c ∷ []))));
-    no_cell = λ no. absurd (cc);
-  }
+  first = so_far.first;
+  outline = so_far.outline;
+  parts = joined ps so_far.first (map OneCell cells) [] (OneCell c) so_far.parts ∙ ap (λ (xs : List Part). so_far.first ++ xs) (cells_snoc cells c ∙ sym (append-nil (map OneCell (cells ++ c ∷ []))));
+  no_cell = λ no. absurd (cc);
+}
 cell_keeps ps AtRows o cells columns rows c so_far before = absurd (cc)
 cell_keeps ps AtEnd o cells columns rows c so_far before = absurd (cc)
 
 columns_keep : (ps : List Part) (stage : Stage) (o : OutlineSoFar) (cells : List Cell) (columns rows names : List Name)
-  → IsSheetSoFar ps (record { stage = stage; outline = o; cells = cells; columns = columns; rows = rows }) → is_before_axes stage ≡ true
-  → IsSheetSoFar (ps ++ Columns names ∷ []) (record { stage = AtRows; outline = o; cells = cells; columns = names; rows = rows })
+    → IsSheetSoFar ps (record { stage = stage; outline = o; cells = cells; columns = columns; rows = rows }) → is_before_axes stage ≡ true
+    → IsSheetSoFar (ps ++ Columns names ∷ []) (record { stage = AtRows; outline = o; cells = cells; columns = names; rows = rows })
 columns_keep ps InOutline o cells columns rows names so_far before = record {
-    first = so_far.first;
-    outline = so_far.outline;
-    parts = joined ps so_far.first (map OneCell cells) [] (Columns names) so_far.parts;
-    no_cell = λ no. absurd (cc);
-  }
+  first = so_far.first;
+  outline = so_far.outline;
+  parts = joined ps so_far.first (map OneCell cells) [] (Columns names) so_far.parts;
+  no_cell = λ no. absurd (cc);
+}
 columns_keep ps InCells o cells columns rows names so_far before = record {
-    first = so_far.first;
-    outline = so_far.outline;
-    parts = joined ps so_far.first (map OneCell cells) [] (Columns names) so_far.parts;
-    no_cell = λ no. absurd (cc);
-  }
+  first = so_far.first;
+  outline = so_far.outline;
+  parts = joined ps so_far.first (map OneCell cells) [] (Columns names) so_far.parts;
+  no_cell = λ no. absurd (cc);
+}
 columns_keep ps AtRows o cells columns rows names so_far before = absurd (cc)
 columns_keep ps AtEnd o cells columns rows names so_far before = absurd (cc)
 
 rows_keep : (ps : List Part) (stage : Stage) (o : OutlineSoFar) (cells : List Cell) (columns rows names : List Name)
-  → IsSheetSoFar ps (record { stage = stage; outline = o; cells = cells; columns = columns; rows = rows }) → is_at_rows stage ≡ true
-  → IsSheetSoFar (ps ++ Rows names ∷ []) (record { stage = AtEnd; outline = o; cells = cells; columns = columns; rows = names })
+    → IsSheetSoFar ps (record { stage = stage; outline = o; cells = cells; columns = columns; rows = rows }) → is_at_rows stage ≡ true
+    → IsSheetSoFar (ps ++ Rows names ∷ []) (record { stage = AtEnd; outline = o; cells = cells; columns = columns; rows = names })
 rows_keep ps InOutline o cells columns rows names so_far at = absurd (cc)
 rows_keep ps InCells o cells columns rows names so_far at = absurd (cc)
 rows_keep ps AtRows o cells columns rows names so_far at = record {
-    first = so_far.first;
-    outline = so_far.outline;
-    parts = joined ps so_far.first (map OneCell cells) (Columns columns ∷ []) (Rows names) so_far.parts;
-    no_cell = λ no. absurd (cc);
-  }
+  first = so_far.first;
+  outline = so_far.outline;
+  parts = joined ps so_far.first (map OneCell cells) (Columns columns ∷ []) (Rows names) so_far.parts;
+  no_cell = λ no. absurd (cc);
+}
 rows_keep ps AtEnd o cells columns rows names so_far at = absurd (cc)
 
 pub sheet_keeps : (ps : List Part) (s t : SheetSoFar) (p : Part) → IsSheetSoFar ps s → sheet_with s p ≡ Some t → IsSheetSoFar (ps ++ p ∷ []) t
@@ -146,26 +146,26 @@ rows_alone : IsLine (Rows ([] ∷ [])) (codes "rows ")
 rows_alone = (ascii_text (codes "rows ") refl, ([], refl, refl))
 
 goes_on : (ps first more : List Part) (o : OutlineSoFar) (cells : List Cell) (columns rows : List Name) (lines further : List (List ℕ))
-  → IsOutlineSoFar first o → ps ++ more ≡ first ++ (map OneCell cells ++ Columns columns ∷ Rows rows ∷ []) → AreLines ps lines → AreLines more further → Begins (Says MakeSheet) lines
+    → IsOutlineSoFar first o → ps ++ more ≡ first ++ (map OneCell cells ++ Columns columns ∷ Rows rows ∷ []) → AreLines ps lines → AreLines more further → Begins (Says MakeSheet) lines
 goes_on ps first more o cells columns rows lines further outline parts are are_more =
     (further, record { outline = o.outline; cells = cells; columns = columns; rows = rows }, (ps ++ more, (first, outline.makes, parts), AreLines-append ps more lines further are are_more))
 
 stage_begins : (ps : List Part) (stage : Stage) (o : OutlineSoFar) (cells : List Cell) (columns rows : List Name) (lines : List (List ℕ))
-  → IsSheetSoFar ps (record { stage = stage; outline = o; cells = cells; columns = columns; rows = rows }) → AreLines ps lines → Begins (Says MakeSheet) lines
+    → IsSheetSoFar ps (record { stage = stage; outline = o; cells = cells; columns = columns; rows = rows }) → AreLines ps lines → Begins (Says MakeSheet) lines
 stage_begins ps InOutline o cells columns rows lines so_far are =
     let no : List Name = [] ∷ [] in
     let parts = joined (ps ++ Columns no ∷ []) so_far.first (map OneCell cells) (Columns no ∷ []) (Rows no) (joined ps so_far.first (map OneCell cells) [] (Columns no) so_far.parts) in
     goes_on ps so_far.first (Columns no ∷ Rows no ∷ []) o cells no no lines (codes "columns " ∷ codes "rows " ∷ []) so_far.outline (sym (append_assoc ps (Columns no ∷ []) (Rows no ∷ [])) ∙ parts) are
-      (columns_alone, (rows_alone, tt))
+    (columns_alone, (rows_alone, tt))
 stage_begins ps InCells o cells columns rows lines so_far are =
     let no : List Name = [] ∷ [] in
     let parts = joined (ps ++ Columns no ∷ []) so_far.first (map OneCell cells) (Columns no ∷ []) (Rows no) (joined ps so_far.first (map OneCell cells) [] (Columns no) so_far.parts) in
     goes_on ps so_far.first (Columns no ∷ Rows no ∷ []) o cells no no lines (codes "columns " ∷ codes "rows " ∷ []) so_far.outline (sym (append_assoc ps (Columns no ∷ []) (Rows no ∷ [])) ∙ parts) are
-      (columns_alone, (rows_alone, tt))
+    (columns_alone, (rows_alone, tt))
 stage_begins ps AtRows o cells columns rows lines so_far are =
     let no : List Name = [] ∷ [] in
     goes_on ps so_far.first (Rows no ∷ []) o cells columns no lines (codes "rows " ∷ []) so_far.outline (joined ps so_far.first (map OneCell cells) (Columns columns ∷ []) (Rows no) so_far.parts) are
-      (rows_alone, tt)
+    (rows_alone, tt)
 stage_begins ps AtEnd o cells columns rows lines so_far are =
     goes_on ps so_far.first [] o cells columns rows lines [] so_far.outline (append-nil ps ∙ so_far.parts) are tt
 
@@ -213,20 +213,19 @@ lifted (Columns names ∷ ps) (Some v) o t h = absurd (no_run ps t h)
 lifted (Rows names ∷ ps) (Some v) o t h = absurd (no_run ps t h)
 
 cells_read : (cs : List Cell) (stage : Stage) (o : OutlineSoFar) (cells : List Cell) → is_before_axes stage ≡ true
-  → (g : Stage) × (is_before_axes g ≡ true) × (run sheet_with (Some (record { stage = stage; outline = o; cells = cells; columns = []; rows = [] })) (map OneCell cs) ≡ Some (record { stage = g; outline = o; cells = cells ++ cs; columns = []; rows = [] }))
+    → (g : Stage) × (is_before_axes g ≡ true) × (run sheet_with (Some (record { stage = stage; outline = o; cells = cells; columns = []; rows = [] })) (map OneCell cs) ≡ Some (record { stage = g; outline = o; cells = cells ++ cs; columns = []; rows = [] }))
 cells_read [] stage o cells before = (stage, before, ap (λ (xs : List Cell). let s : SheetSoFar = record { stage = stage; outline = o; cells = xs; columns = []; rows = [] } in Some s) (sym (append-nil cells)))
 cells_read (c ∷ cs) stage o cells before =
     let rest = cells_read cs InCells o (cells ++ c ∷ []) refl in
-    let soon : SheetSoFar = record { stage = InCells; outline = o; cells = cells ++ c ∷ []; columns = []; rows = [] } in
-    (
+    let soon : SheetSoFar = record { stage = InCells; outline = o; cells = cells ++ c ∷ []; columns = []; rows = [] } in (
       rest.0,
       rest.1,
       ap (λ (b : Bool). run sheet_with (if b then Some soon else None) (map OneCell cs)) before ∙ rest.2
-        ∙ ap (λ (xs : List Cell). let s : SheetSoFar = record { stage = rest.0; outline = o; cells = xs; columns = []; rows = [] } in Some s) (append_assoc cells (c ∷ []) cs),
+          ∙ ap (λ (xs : List Cell). let s : SheetSoFar = record { stage = rest.0; outline = o; cells = xs; columns = []; rows = [] } in Some s) (append_assoc cells (c ∷ []) cs),
     )
 
 axes_read : (stage : Stage) (o : OutlineSoFar) (cells : List Cell) (columns rows : List Name) → is_before_axes stage ≡ true
-  → run sheet_with (Some (record { stage = stage; outline = o; cells = cells; columns = []; rows = [] })) (Columns columns ∷ Rows rows ∷ []) ≡ Some (record { stage = AtEnd; outline = o; cells = cells; columns = columns; rows = rows })
+    → run sheet_with (Some (record { stage = stage; outline = o; cells = cells; columns = []; rows = [] })) (Columns columns ∷ Rows rows ∷ []) ≡ Some (record { stage = AtEnd; outline = o; cells = cells; columns = columns; rows = rows })
 axes_read stage o cells columns rows before =
     let soon : SheetSoFar = record { stage = AtRows; outline = o; cells = cells; columns = columns; rows = [] } in
     ap (λ (b : Bool). run sheet_with (if b then Some soon else None) (Rows rows ∷ [])) before
@@ -238,14 +237,13 @@ sheet_read ps a makes =
     let first = outline_read os a.outline makes.1 in
     let t = first.0 in
     let cells = cells_read a.cells InOutline t [] refl in
-    let full : SheetSoFar = record { stage = AtEnd; outline = t; cells = a.cells; columns = a.columns; rows = a.rows } in
-    (
+    let full : SheetSoFar = record { stage = AtEnd; outline = t; cells = a.cells; columns = a.columns; rows = a.rows } in (
       full,
       ap (run sheet_with (Some sheet_start)) makes.2
-        ∙ run-append sheet_with os (map OneCell a.cells ++ axes) (Some sheet_start)
-        ∙ ap (λ (s : Option SheetSoFar). run sheet_with s (map OneCell a.cells ++ axes)) (lifted os (Some outline_start) outline_start t first.1)
-        ∙ run-append sheet_with (map OneCell a.cells) axes (Some (in_outline t))
-        ∙ ap (λ (s : Option SheetSoFar). run sheet_with s axes) cells.2
-        ∙ axes_read cells.0 t a.cells a.columns a.rows cells.1,
+          ∙ run-append sheet_with os (map OneCell a.cells ++ axes) (Some sheet_start)
+          ∙ ap (λ (s : Option SheetSoFar). run sheet_with s (map OneCell a.cells ++ axes)) (lifted os (Some outline_start) outline_start t first.1)
+          ∙ run-append sheet_with (map OneCell a.cells) axes (Some (in_outline t))
+          ∙ ap (λ (s : Option SheetSoFar). run sheet_with s axes) cells.2
+          ∙ axes_read cells.0 t a.cells a.columns a.rows cells.1,
       record { ended = refl; same = ap (λ (o : Outline). let s : Sheet = record { outline = o; cells = a.cells; columns = a.columns; rows = a.rows } in s) first.2 },
     )

@@ -29,7 +29,7 @@ outline_with o (Database app db) =
     else None
 outline_with o (OneMember m) =
     if nat_le m.depth (most_after o.last) then
-      Some (record { named = o.named; last = Some m.depth; outline = record { app = o.outline.app; db = o.outline.db; members = o.outline.members ++ m ∷ [] } })
+    Some (record { named = o.named; last = Some m.depth; outline = record { app = o.outline.app; db = o.outline.db; members = o.outline.members ++ m ∷ [] } })
     else None
 outline_with o (OneCell c) = None
 outline_with o (Columns names) = None

@@ -102,6 +102,7 @@ pub fn read_outline<'a>(alloc: Global, text: &'a [u8]) -> Result<OutlineText<'a>
     ensures found { IfOk result (λ o. TextSaysOutline text.now (outline o)) }
     ensures only { IfOk result (λ o. (other : Outline) → TextSaysOutline text.now other → other ≡ outline o) }
     ensures fault { IfErr result (HasFault (IsOutlineFault text.now)) }
+    ensures none { IfErr result (HasFault (λ at. (other : Outline) → TextSaysOutline text.now other → ⊥)) }
 {
     let mut reading = OutlineReading::new(alloc);
     let mut lines = Lines { text, at: 0 };

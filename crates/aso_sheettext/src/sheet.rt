@@ -113,6 +113,7 @@ pub fn read_sheet<'a>(alloc: Global, text: &'a [u8]) -> Result<SheetText<'a>, Sh
     ensures found { IfOk result (λ s. TextSaysSheet text.now (sheet s)) }
     ensures only { IfOk result (λ s. (other : Sheet) → TextSaysSheet text.now other → other ≡ sheet s) }
     ensures fault { IfErr result (HasFault (IsSheetFault text.now)) }
+    ensures none { IfErr result (HasFault (λ at. (other : Sheet) → TextSaysSheet text.now other → ⊥)) }
 {
     let mut reading = SheetReading::new(alloc);
     let mut lines = Lines { text, at: 0 };

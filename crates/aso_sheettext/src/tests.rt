@@ -52,11 +52,13 @@ fn outline_told(alloc: Global, text: &[u8]) -> Result<String, NoMemory> {
     Ok(out)
 }
 
-const WORKED: &str = "dim Year\n.Jan\n.Feb\ndim Market\n.NY\n.CA\ncell Jan|NY|10.5\ncell Feb|NY|-0.25\ncell Jan|CA|2\ncolumns Jan|Feb|Year\nrows NY|Market\n";
+const WORKED: &str =
+    "dim Year\n.Jan\n.Feb\ndim Market\n.NY\n.CA\ncell Jan|NY|10.5\ncell Feb|NY|-0.25\ncell Jan|CA|2\ncolumns Jan|Feb|Year\nrows NY|Market\n";
 
 #[test]
 fn sheets(rt: HostRuntime) -> Result<(), Fail> {
-    let worked = "Sample.Basic 0<Year> 1<Jan> 1<Feb> 0<Market> 1<NY> 1<CA>;<Jan><NY>105000;<Feb><NY>-2500;<Jan><CA>20000; <Jan><Feb><Year>/<NY><Market>";
+    let worked =
+        "Sample.Basic 0<Year> 1<Jan> 1<Feb> 0<Market> 1<NY> 1<CA>;<Jan><NY>105000;<Feb><NY>-2500;<Jan><CA>20000; <Jan><Feb><Year>/<NY><Market>";
     let cases = [
         (WORKED, worked),
         ("columns a\nrows b", "Sample.Basic; <a>/<b>"),
@@ -64,12 +66,25 @@ fn sheets(rt: HostRuntime) -> Result<(), Fail> {
         ("columns a\r\r\nrows b\r", "Sample.Basic; <a\r>/<b\r>"),
         ("columns \nrows |\n", "Sample.Basic; <>/<><>"),
         ("\n# a\ndatabase A.B.C\n\r\n#\ndim X\n# b\n..\n", "34"),
-        ("\n# a\ndatabase A.B.C\n\r\n#\ndim X\n# b\n.\n..Y\n# c\ncell |5.\n# d\n\ncell a|b|.5\n\ncolumns a\n\n# e\nrows b\n\n# f", "A.B.C 0<X> 1<> 2<Y>;<>50000;<a><b>5000; <a>/<b>"),
-        ("database .\ndim .a\ndim \ndim Größe\n.Ä\n..b c\n.d\ncolumns é\nrows ü|#\n", ". 0<.a> 0<> 0<Größe> 1<Ä> 2<b c> 1<d>; <é>/<ü><#>"),
-        ("cell a|-99999999999999.99990\ncolumns a\nrows b\n", "Sample.Basic;<a>-999999999999999999; <a>/<b>"),
+        (
+            "\n# a\ndatabase A.B.C\n\r\n#\ndim X\n# b\n.\n..Y\n# c\ncell |5.\n# d\n\ncell a|b|.5\n\ncolumns a\n\n# e\nrows b\n\n# f",
+            "A.B.C 0<X> 1<> 2<Y>;<>50000;<a><b>5000; <a>/<b>",
+        ),
+        (
+            "database .\ndim .a\ndim \ndim Größe\n.Ä\n..b c\n.d\ncolumns é\nrows ü|#\n",
+            ". 0<.a> 0<> 0<Größe> 1<Ä> 2<b c> 1<d>; <é>/<ü><#>",
+        ),
+        (
+            "cell a|-99999999999999.99990\ncolumns a\nrows b\n",
+            "Sample.Basic;<a>-999999999999999999; <a>/<b>",
+        ),
     ];
     for (text, want) in cases {
-        assert_eq!(rt; sheet_told(rt.alloc(), text.as_bytes())?.as_str(), want, "at {text}");
+        assert_eq!(rt;
+            sheet_told(rt.alloc(), text.as_bytes())?.as_str(),
+            want,
+            "at {text}"
+        );
     }
     Ok(())
 }
@@ -122,7 +137,11 @@ fn places_in_sheets(rt: HostRuntime) -> Result<(), Fail> {
     for (before, rest) in cases {
         let text = format!(in rt.alloc(); "{before}{rest}")?;
         let want = format!(in rt.alloc(); "{}", before.len())?;
-        assert_eq!(rt; sheet_told(rt.alloc(), text.as_bytes())?.as_str(), want.as_str(), "at {text}");
+        assert_eq!(rt;
+            sheet_told(rt.alloc(), text.as_bytes())?.as_str(),
+            want.as_str(),
+            "at {text}"
+        );
     }
     Ok(())
 }
@@ -133,14 +152,21 @@ fn outlines(rt: HostRuntime) -> Result<(), Fail> {
         ("", "Sample.Basic"),
         ("# a\n\n", "Sample.Basic"),
         ("database A.B", "A.B"),
-        ("database A.B\ndim Year\n.Jan\n\n#\n..Week1\n.Feb", "A.B 0<Year> 1<Jan> 2<Week1> 1<Feb>"),
+        (
+            "database A.B\ndim Year\n.Jan\n\n#\n..Week1\n.Feb",
+            "A.B 0<Year> 1<Jan> 2<Week1> 1<Feb>",
+        ),
         ("dim Year\ncell Jan|1\n", "9"),
         ("dim Year\ncolumns Jan\nrows Feb\n", "9"),
         ("dim Year\n.Jan\n...Week1\n", "14"),
         ("rows b\n", "0"),
     ];
     for (text, want) in cases {
-        assert_eq!(rt; outline_told(rt.alloc(), text.as_bytes())?.as_str(), want, "at {text}");
+        assert_eq!(rt;
+            outline_told(rt.alloc(), text.as_bytes())?.as_str(),
+            want,
+            "at {text}"
+        );
     }
     Ok(())
 }

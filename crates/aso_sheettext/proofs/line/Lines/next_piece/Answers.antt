@@ -20,8 +20,7 @@ returns-else-size-rest-clause-pieces c =
     let size = c.until_end-size.result in
     let rest = take (length text - at) (drop at text) in
     let whole : rest ≡ drop at text = ap (λ (n : ℕ). take n (drop at text)) (sym (length-drop at text)) ∙ take-length (drop at text) in
-    let is : position_or_len (λ b. b == 10) (drop at text) ≡ size = ap (λ (xs : List ℕ). position_or_len (λ b. b == 10) xs) (sym whole) ∙ sym c.until_end-size.ensures.value in
-    (
+    let is : position_or_len (λ b. b == 10) (drop at text) ≡ size = ap (λ (xs : List ℕ). position_or_len (λ b. b == 10) xs) (sym whole) ∙ sym c.until_end-size.ensures.value in (
       omega arith,
       ended_piece text c.without_return.result.now at size c.requires is (omega (arith, c.until_end-size.ensures.within, c.if-size-rest.false, ap length whole))
           (c.without_return.ensures ∙ ap (λ (xs : List ℕ). without_return (take size xs)) whole),

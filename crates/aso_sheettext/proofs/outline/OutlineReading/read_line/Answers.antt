@@ -13,4 +13,4 @@ returns-in-Ok-Some c =
     let p = part c.in-Ok-Some.part in
     let written = subst (λ (o : Option PartText). SaysPart c.in-Ok.line.now o) c.in-Ok-Some.field-0-is c.in-Ok-Some.ensures in
     takes_result outline_with (outline_so_far c.args.self.now) _ p c.args.line.now c.take.result c.in-Ok.ensures.cases.1
-      (subst (λ (xs : List ℕ). IsWritten p xs) c.in-Ok.ensures.cases.0 written) c.take.ensures
+    (subst (λ (xs : List ℕ). IsWritten p xs) c.in-Ok.ensures.cases.0 written) c.take.ensures
