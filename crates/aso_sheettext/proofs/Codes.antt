@@ -1,12 +1,11 @@
 -- What the code finds in a line, in the words of the definitions.
-use Rattle.std.proofs.Common.{◌≡◌, ◌≢◌, ◌∙◌, sym, ap, refl, subst, ℕ, zero, suc, ◌+◌, ◌<◌, ◌≤◌, Bool, true, false, List, [], ◌∷◌, ◌++◌, get_or, length, replicate, Some, None, Ok, Err, Result, ℤ, codes, ◌==◌, Bor, arith, add-one}
-use Rattle.std.specs.Prelude.{All}
+use Rattle.std.proofs.Common.{◌≡◌, ◌≢◌, ◌∙◌, sym, ap, refl, subst, ℕ, zero, suc, ◌+◌, ◌<◌, List, [], ◌∷◌, ◌++◌, get_or, length, replicate, Ok, Err, Result, ℤ, codes, Bor, arith, add-one}
 use Rattle.std.proofs.Math.Seq.{get_or-append_seam}
 use Rattle.std.proofs.lemmas.List.{append_cancel_left, length-append}
-use Rattle.std.proofs.lemmas.Grind.{common_steps, get_or_default_zero}
+use Rattle.std.proofs.lemmas.Grind.{get_or_default_zero}
 use Rattle.aso_num.specs.AmountText.{amount_of}
 use Rattle.aso_num.specs.declared.amount.NumberFault.{NumberFault}
-use Rattle.aso_sheettext.specs.Sheet.{Name, Cell, Part, Database, OneMember, OneCell, Columns, Rows}
+use Rattle.aso_sheettext.specs.Sheet.{Cell, Part, Database, OneMember, OneCell, Columns, Rows}
 use Rattle.aso_sheettext.specs.Written.{IsWritten, IsMemberLine, IsDotless, IsDatabaseLine, fields}
 use Rattle.aso_sheettext.specs.Texts.{names}
 use Rattle.aso_sheettext.proofs.Parts.{kind, number, kind-part, last_once}

@@ -1,12 +1,12 @@
 -- The definitions, computed on the worked sheet and on two faulty texts.
-use Rattle.std.proofs.Common.{◌≡◌, ℕ, List, [], ◌∷◌, arith, Some, None, Option, refl, true, subst, codes, pos, negsuc, lit<, inr}
+use Rattle.std.proofs.Common.{◌≡◌, ℕ, List, [], ◌∷◌, arith, Some, None, refl, true, subst, codes, pos, negsuc, lit<}
 use Rattle.std.specs.Str.{is_utf8}
 use Rattle.std.proofs.lemmas.Str.{is_utf8-from_IsUtf8}
-use Rattle.aso_sheettext.specs.Sheet.{Member, Cell, Sheet, Part, Database, OneMember, OneCell, Columns, Rows}
+use Rattle.aso_sheettext.specs.Sheet.{Member, Sheet, Part, OneMember, OneCell, Columns}
 use Rattle.aso_sheettext.specs.Lines.{Line, lines_of}
 use Rattle.aso_sheettext.specs.Written.{IsLine, AreLines}
 use Rattle.aso_sheettext.specs.Says.{MakeSheet}
-use Rattle.aso_sheettext.specs.Faults.{bytes_of, TextSaysSheet, IsSheetFault}
+use Rattle.aso_sheettext.specs.Faults.{bytes_of, IsSheetFault}
 use Rattle.aso_sheettext.specs.Reading.{SheetSoFar, sheet_with}
 use Rattle.aso_sheettext.specs.Held.{sheet_start}
 use Rattle.aso_sheettext.proofs.Ascii.{ascii_text}

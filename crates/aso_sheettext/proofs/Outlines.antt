@@ -1,7 +1,7 @@
 -- Reading an outline part by part.
-use Rattle.std.proofs.Common.{◌≡◌, ◌∙◌, sym, ap, refl, subst, ℕ, ◌+◌, ◌≤◌, Bool, true, false, not, ◌&&◌, List, [], ◌∷◌, ◌++◌, Option, Some, None, map, ◌⊎◌, inl, inr, codes, if◌then◌else◌, append_assoc, is_none}
+use Rattle.std.proofs.Common.{◌≡◌, ◌∙◌, sym, ap, refl, subst, ℕ, ◌≤◌, Bool, true, false, List, [], ◌∷◌, ◌++◌, Option, Some, None, map, ◌⊎◌, inl, inr, codes, if◌then◌else◌, append_assoc}
 use Rattle.std.specs.Prelude.{nat_le}
-use Rattle.std.proofs.lemmas.List.{append-nil, map-append}
+use Rattle.std.proofs.lemmas.List.{append-nil}
 use Rattle.std.proofs.lemmas.Bool.{leb-true, le-leb}
 use Rattle.aso_sheettext.specs.Sheet.{Name, Member, Outline, Part, Database, OneMember, OneCell, Columns, Rows}
 use Rattle.aso_sheettext.specs.Written.{AreLines}
@@ -9,7 +9,7 @@ use Rattle.aso_sheettext.specs.Says.{AreNested, MakeOutline, Says}
 use Rattle.aso_sheettext.specs.Faults.{Begins}
 use Rattle.aso_sheettext.specs.Reading.{OutlineSoFar, most_after, outline_with}
 use Rattle.aso_sheettext.specs.Held.{outline_start}
-use Rattle.aso_sheettext.proofs.Runs.{next, run, run_none, run-append, ReadsAll}
+use Rattle.aso_sheettext.proofs.Runs.{run, ReadsAll}
 
 -- how deep the last of some members is
 abbrev pub last_depth : Option ℕ → List Member → Option ℕ

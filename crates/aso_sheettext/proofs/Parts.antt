@@ -1,14 +1,14 @@
 -- A line says at most one part.
-use Rattle.std.proofs.Common.{◌≡◌, ◌≢◌, ◌∙◌, sym, ap, refl, subst, ℕ, zero, suc, ◌+◌, ◌*◌, ◌<◌, Bool, true, false, List, [], ◌∷◌, ◌++◌, get_or, length, replicate, ℤ, Option, Result, Ok, Err, codes, ◌==◌, if◌then◌else◌, arith}
+use Rattle.std.proofs.Common.{◌≡◌, ◌≢◌, ◌∙◌, sym, ap, refl, ℕ, zero, suc, Bool, true, false, List, [], ◌∷◌, ◌++◌, get_or, replicate, ℤ, Option, Result, Ok, Err, codes, ◌==◌, if◌then◌else◌, arith}
 use Rattle.std.specs.Prelude.{All, IsUtf8, IfOk}
 use Rattle.std.specs.List.{slice_split}
-use Rattle.std.proofs.lemmas.List.{append_cancel_left, append_cancel_right}
+use Rattle.std.proofs.lemmas.List.{append_cancel_left}
 use Rattle.std.proofs.lemmas.List.Splits.{slice_split_at}
 use Rattle.std.proofs.lemmas.Grind.{common_steps}
 use Rattle.aso_num.specs.AmountText.{amount_of}
 use Rattle.aso_sheettext.specs.Sheet.{Name, Member, Cell, Part, Database, OneMember, OneCell, Columns, Rows}
 use Rattle.aso_sheettext.specs.Reading.{TakesPart, TakesLine}
-use Rattle.aso_sheettext.specs.Written.{IsWritten, IsLine, AreLines, IsMemberLine, IsDotless, IsDatabaseLine, IsCellLine, IsAxisLine, fields}
+use Rattle.aso_sheettext.specs.Written.{IsWritten, IsLine, AreLines, IsMemberLine, IsDotless, IsCellLine, IsAxisLine, fields}
 
 -- which kind of part a line says, if any
 abbrev pub kind : List ℕ → ℕ

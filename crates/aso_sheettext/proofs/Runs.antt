@@ -1,11 +1,11 @@
 -- Reading part by part: what is so far after some parts, and what that says of the lines of which they are the parts.
-use Rattle.std.proofs.Common.{◌≡◌, ◌∙◌, sym, ap, refl, subst, ℕ, ◌+◌, List, [], ◌∷◌, ◌++◌, Option, Some, None, length, drop, map, true, false, append_assoc}
+use Rattle.std.proofs.Common.{◌≡◌, ◌∙◌, sym, ap, refl, subst, ℕ, List, [], ◌∷◌, ◌++◌, Option, Some, None, length, drop, true, false, append_assoc}
 use Rattle.std.proofs.lemmas.List.{append-nil}
 use Rattle.aso_sheettext.specs.Sheet.{Part}
 use Rattle.aso_sheettext.specs.Lines.{Line, lines_of, lines_from}
 use Rattle.aso_sheettext.specs.Written.{IsLine, AreLines}
 use Rattle.aso_sheettext.specs.Says.{Says}
-use Rattle.aso_sheettext.specs.Faults.{bytes_of, Begins, Ends, start_of, IsFaultAt}
+use Rattle.aso_sheettext.specs.Faults.{bytes_of, Begins, Ends, IsFaultAt}
 use Rattle.aso_sheettext.specs.Reading.{TakesLine}
 use Rattle.aso_sheettext.proofs.Parts.{parts_once, AreLines-append}
 

@@ -5,14 +5,14 @@ use Rattle.aso_sheettext.specs.declared.stage.Stage.{Stage}
 use Rattle.aso_sheettext.specs.declared.stage.Stage.TheVariants.{InOutline, InCells, AtRows, AtEnd}
 use Rattle.aso_sheettext.specs.Sheet.{Name, Cell, Outline, Sheet, Part, Database, OneMember, OneCell, Columns, Rows}
 use Rattle.aso_sheettext.specs.Written.{IsLine, AreLines}
-use Rattle.aso_sheettext.specs.Says.{MakeOutline, MakeSheet, Says}
+use Rattle.aso_sheettext.specs.Says.{MakeSheet, Says}
 use Rattle.aso_sheettext.specs.Faults.{Begins}
 use Rattle.aso_sheettext.specs.Reading.{OutlineSoFar, SheetSoFar, outline_with, sheet_with, with_outline, is_in_outline, is_before_axes, is_at_rows, is_at_end}
 use Rattle.aso_sheettext.specs.Held.{outline_start, sheet_start}
 use Rattle.aso_sheettext.proofs.Ascii.{ascii_text}
 use Rattle.aso_sheettext.proofs.Parts.{AreLines-append}
-use Rattle.aso_sheettext.proofs.Runs.{next, run, run_none, run-append, ReadsAll}
-use Rattle.aso_sheettext.proofs.Outlines.{IsOutlineSoFar, IsOutlineRead, outline_keeps, outline_begun, outline_read, cond_some}
+use Rattle.aso_sheettext.proofs.Runs.{run, run_none, run-append, ReadsAll}
+use Rattle.aso_sheettext.proofs.Outlines.{IsOutlineSoFar, outline_keeps, outline_begun, outline_read, cond_some}
 
 -- the parts of the axes so far
 abbrev pub axes_of : Stage → List Name → List Name → List Part

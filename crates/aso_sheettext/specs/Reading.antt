@@ -2,7 +2,7 @@
 use Rattle.std.specs.Prelude.{◌≡◌, ℕ, ◌+◌, Bool, true, false, not, ◌&&◌, List, [], ◌∷◌, ◌++◌, Option, Some, None, is_none, nat_le, if◌then◌else◌}
 use Rattle.aso_sheettext.specs.declared.stage.Stage.{Stage}
 use Rattle.aso_sheettext.specs.declared.stage.Stage.TheVariants.{InOutline, InCells, AtRows, AtEnd}
-use Rattle.aso_sheettext.specs.Sheet.{Name, Cell, Outline, Sheet, Part, Database, OneMember, OneCell, Columns, Rows}
+use Rattle.aso_sheettext.specs.Sheet.{Name, Cell, Outline, Part, Database, OneMember, OneCell, Columns, Rows}
 use Rattle.aso_sheettext.specs.Written.{IsLine}
 
 -- an outline so far: whether its database was named, and the depth of its last member

@@ -2,7 +2,7 @@
 use Rattle.std.specs.Prelude.{◌≡◌, ◌≢◌, ℕ, zero, suc, ◌<◌, List, [], ◌∷◌, ◌++◌, length, replicate, Ok, All, IsUtf8, ◌==◌, codes}
 use Rattle.std.specs.List.{slice_split}
 use Rattle.aso_num.specs.AmountText.{amount_of}
-use Rattle.aso_sheettext.specs.Sheet.{Name, Member, Cell, Part, Database, OneMember, OneCell, Columns, Rows}
+use Rattle.aso_sheettext.specs.Sheet.{Name, Cell, Part, Database, OneMember, OneCell, Columns, Rows}
 
 -- what stands between the bars
 abbrev pub fields : List ℕ → List (List ℕ)

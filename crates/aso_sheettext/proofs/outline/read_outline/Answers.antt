@@ -4,7 +4,7 @@ use Rattle.aso_sheettext.specs.Says.{SaysOutline, MakeOutline}
 use Rattle.aso_sheettext.specs.Reading.{outline_with, TakesLine}
 use Rattle.aso_sheettext.specs.Held.{outline_so_far, outline_start}
 use Rattle.aso_sheettext.specs.Texts.{line, outline}
-use Rattle.aso_sheettext.proofs.Runs.{IsReading, read_nothing, read_more, fault_here, fault_end, says_read, says_only, none_says}
+use Rattle.aso_sheettext.proofs.Runs.{IsReading, read_nothing, read_more, fault_here, says_read, says_only, none_says}
 use Rattle.aso_sheettext.proofs.Outlines.{IsOutlineSoFar, IsOutlineRead, outline_begun, outline_keeps, outline_begins, outline_read}
 use Rattle.aso_sheettext.proofs.outline.read_outline.Goals as goal
 

@@ -1,5 +1,4 @@
-use Rattle.std.proofs.Common.{lit<, ◌≡◌, List, ℕ, Bor, Vec}
-use Rattle.std.specs.Prelude.{IfOk, map}
+use Rattle.std.proofs.Common.{lit<}
 use Rattle.std.proofs.lemmas.Iterator.Consumers.{map_from_collect}
 use Rattle.std.proofs.lemmas.Iterator.Splits.{YieldsList-from_str_split}
 use Rattle.aso_sheettext.proofs.part.fields.Goals as goal

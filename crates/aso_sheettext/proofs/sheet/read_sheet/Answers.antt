@@ -3,7 +3,7 @@ use Rattle.aso_sheettext.specs.Lines.{lines_from}
 use Rattle.aso_sheettext.specs.Says.{SaysSheet, MakeSheet}
 use Rattle.aso_sheettext.specs.Reading.{sheet_with, TakesLine}
 use Rattle.aso_sheettext.specs.Held.{sheet_so_far, sheet_start}
-use Rattle.aso_sheettext.specs.Texts.{line, sheet}
+use Rattle.aso_sheettext.specs.Texts.{line}
 use Rattle.aso_sheettext.proofs.Runs.{IsReading, read_nothing, read_more, fault_here, fault_end, says_read, says_only, none_says}
 use Rattle.aso_sheettext.proofs.Sheets.{IsSheetSoFar, IsSheetRead, sheet_begun, sheet_keeps, sheet_begins, sheet_read, at_end, before_end, sheet_of, sheet_makes}
 use Rattle.aso_sheettext.proofs.sheet.read_sheet.Goals as goal
