@@ -1,0 +1,6 @@
+pub mod BelowLemmas
+pub mod SetSteps
+pub mod Examples
+pub mod CountLemmas
+pub mod WrongLemmas
+pub mod RangeSteps
