@@ -143,3 +143,6 @@ module _ (o : Draft) (own : Own) (u : Purpose) where
   pub said_crossjoin : (l r : SetText) → said_of o own u (Crossjoin l r) ≡ said_of_both (said_of o own u l) (said_of o own u r)
   unfolding said_of
   said_crossjoin = fold_crossjoin Said (said_step o own u)
+
+  pub dims_crossjoin : (l r : SetText) → (said_of o own u (Crossjoin l r)).dims ≡ (said_of o own u l).dims ++ (said_of o own u r).dims
+  dims_crossjoin l r = ap (λ (s : Said). s.dims) (said_crossjoin l r)

@@ -135,3 +135,7 @@ module _ (o : Draft) (own : Own) (u : Purpose) where
 
   pub members_may : (set : SetText) → IsPlaced o own u set → list_all (list_all (may_have o u)) (rows_of o own set) ≡ true
   members_may set placed = ind-SetText Fits fits_step set [] None placed.1
+
+  -- the tuples of a set that are made
+  pub made_may : (set : SetText) (rows : List (List ℕ)) → IsPlaced o own u set → rows ≡ rows_of o own set → list_all (list_all (may_have o u)) rows ≡ true
+  made_may set rows placed are = ap (list_all (list_all (may_have o u))) are ∙ members_may set placed

@@ -142,14 +142,17 @@ fn wrong_member<'a>(
     first_refused(alloc, outline, own, purpose, part, path)
 }
 
+#[tactic(auto, using(crate::proofs::WrongLemmas::longer))]
 fn is_beginning(dims: &[DimRef], wanted: &[DimRef]) -> bool
     ensures { result ≡ is_beginning_of dims.now wanted.now }
 {
-    match (dims, wanted) {
-        ([], _) => true,
-        ([_, ..], []) => false,
-        ([d, ds @ ..], [e, es @ ..]) => same_dim(*d, *e) && is_beginning(ds, es),
-    }
+    let [dim, later @ ..] = dims else {
+        return true;
+    };
+    let [first, rest @ ..] = wanted else {
+        return false;
+    };
+    same_dim(*dim, *first) && is_beginning(later, rest)
 }
 
 /// The list is a mere beginning of the wanted one.
@@ -157,6 +160,16 @@ fn is_short(dims: &[DimRef], wanted: &[DimRef]) -> bool
     ensures { result ≡ (nat_lt (length dims.now) (length wanted.now) && is_beginning_of dims.now wanted.now) }
 {
     dims.len() < wanted.len() && is_beginning(dims, wanted)
+}
+
+/// The dimensions that were named before, and one more.
+fn with_dim(alloc: Global, before: &[DimRef], dim: DimRef) -> Result<Vec<DimRef>, NoMemory>
+    ensures { IfOk result (λ v. v.items ≡ before.now ++ dim ∷ []) }
+{
+    let mut named = Vec::new(alloc);
+    named.extend_from_slice(before)?;
+    named.push(dim)?;
+    Ok(named)
 }
 
 /// Each member of a tuple stands behind the dimensions of those before it, which are few: a dimension that comes again is wrong.
@@ -190,9 +203,7 @@ fn wrong_tuple<'a>(
     if found.is_some() {
         return Ok(found);
     }
-    let mut named = Vec::new(alloc);
-    named.extend_from_slice(before)?;
-    named.push(dim_at(outline, own, path))?;
+    let named = with_dim(alloc, before, dim_at(outline, own, path))?;
     wrong_tuple(
         alloc,
         outline,
