@@ -109,7 +109,7 @@ module _ (o : Draft) (own : Own) (u : Purpose) where
       → ((before : List DimRef) (wanted : Option (List DimRef)) → said.wrong before wanted ≡ None → list_all may rows ≡ true) → Fits set
   from_parts set rows said are is fits before wanted h = ap (list_all may) are ∙ fits before wanted (sym (ap (λ (s : Said). s.wrong before wanted) is) ∙ h)
 
-  fits_step : (x : SetText-F SetText) (y : SetText-F ((s : SetText) × Fits s)) → map-SetText (λ e. e.0) y ≡ x → Fits (roll-SetText x)
+  fits_step : (x : SetText-F SetText) (y : SetText-F ((s : SetText) × Fits s)) → map-SetText ((s : SetText) × Fits s) SetText (λ e. e.0) y ≡ x → Fits (roll-SetText x)
   fits_step x (SetText-F.Braced es) is =
       let all : List SetText = map (λ e. e.0) es in
       subst (λ (z : SetText-F SetText). Fits (roll-SetText z)) is (subst Fits (sym (rolls-Braced all)) (from_parts (Braced all) _ _ (rows_braced o own all) (said_braced o own u all) (braces_may es)))

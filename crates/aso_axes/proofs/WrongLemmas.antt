@@ -4,7 +4,7 @@ use Rattle.std.specs.Option.{option_map, option_or}
 use Rattle.std.specs.List.{find as first}
 use Rattle.std.proofs.Common.{◌≡◌, ◌∙◌, ℕ, zero, suc, ◌+◌, ◌-◌, ◌<◌, ◌≤◌, Bool, true, false, not, true≢false, List, [], ◌∷◌, ◌++◌, length, length-drop, map, drop, take, get_or, Option, Some, None, refl, sym, ap, arith, add-one}
 use Rattle.std.proofs.Math.Seq.{drop-cons}
-use Rattle.std.proofs.lemmas.List.{take_all}
+use Rattle.std.proofs.lemmas.List.{nil_from_length, take_all}
 use Rattle.aso_outline.specs.declared.draft.Draft.{Draft}
 use Rattle.aso_outline.specs.declared.seat.DimRef.{DimRef}
 use Rattle.aso_outline.specs.Members.{Name}
@@ -79,6 +79,10 @@ or_assoc : {X : Type 0} (a b c : Option X) → option_or a (option_or b c) ≡ o
 or_assoc (Some x) b c = refl
 or_assoc None (Some y) c = refl
 or_assoc None None c = refl
+
+-- none is left
+pub none_left : {X : Type 0} (o : Draft) (own : Own) (said : X → Said) (before wanted : List DimRef) (items : List X) (i : ℕ) → length items ≤ i → wrong_items o own before wanted (map said (drop i items)) ≡ None
+none_left o own said before wanted items i past_all = ap (λ (xs : List _). wrong_items o own before wanted (map said xs)) (nil_from_length (drop i items) (omega (arith, length-drop i items, past_all)))
 
 module _ {X : Type 0} (o : Draft) (own : Own) (said : X → Said) (before wanted : List DimRef) (items : List X) (i : ℕ) (x : X) (low : i < length items) (at : x ≡ get_or items i x) where
   item_here : wrong_items o own before wanted (map said (drop i items)) ≡ option_or (wrong_items o own before wanted (said x ∷ [])) (wrong_items o own before wanted (map said (drop (i + 1) items)))

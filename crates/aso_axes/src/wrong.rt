@@ -238,6 +238,7 @@ fn wrong_item<'a>(
     wrong_in(alloc, outline, own, purpose, item, before, Some(wanted))
 }
 
+/// The first wrong name of the items behind the first.
 #[cycle(wrong)]
 fn wrong_items<'a>(
     alloc: Global,
@@ -249,9 +250,10 @@ fn wrong_items<'a>(
     wanted: &[DimRef],
 ) -> Result<Option<&'a str>, NoMemory>
     requires { IsNumbered outline.now own.now }
-    ensures { IfOk result (λ found. option_map (λ s. s.now) found ≡ wrong_items_of outline.now own.now before.now wanted.now (map (said_of outline.now own.now purpose) items.now)) }
+    ensures { IfOk result (λ found. option_map (λ s. s.now) found ≡ wrong_items_of outline.now own.now before.now wanted.now (map (said_of outline.now own.now purpose) (drop 1 items.now))) }
 {
-    for item in items {
+    for at in 1..items.len() {
+        let item = &items[at];
         let found = wrong_item(alloc, outline, own, purpose, item, before, wanted)?;
         if found.is_some() {
             return Ok(found);
@@ -274,7 +276,7 @@ fn wrong_braces<'a>(
     requires { IsNumbered outline.now own.now }
     ensures { IfOk result (λ found. option_map (λ s. s.now) found ≡ (said_of_items outline.now own.now (map (said_of outline.now own.now purpose) items.now)).wrong before.now (option_map (λ w. w.now) wanted.entry)) }
 {
-    let [first, rest @ ..] = items else {
+    let [first, ..] = items else {
         return Ok(None);
     };
     let found = wrong_in(alloc, outline, own, purpose, first, before, wanted)?;
@@ -283,7 +285,7 @@ fn wrong_braces<'a>(
     }
     let mut dims = Vec::new(alloc);
     said_of_set(outline, own, purpose, first, &mut dims)?;
-    wrong_items(alloc, outline, own, purpose, rest, before, dims.as_slice())
+    wrong_items(alloc, outline, own, purpose, items, before, dims.as_slice())
 }
 
 /// The dimensions that were named before, and those of a set behind them.

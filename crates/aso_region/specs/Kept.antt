@@ -1,7 +1,7 @@
 -- What a region keeps: of each member a range of the numbers of its data leaves.
 use Rattle.std.specs.Prelude.{◌≡◌, ◌<◌, ℕ, suc, zero, ◌==◌, Bool, false, not, ◌&&◌, List, [], ◌∷◌, length, map, Option, Some, None, nat_lt, if◌then◌else◌, slice_get, unwrap_or}
 use Rattle.std.specs.Option.{option_map, option_and_then}
-use Rattle.std.specs.List.{All, list_all, list_any, range_with_len}
+use Rattle.std.specs.List.{All, list_all, list_any, range_with_len, find as first}
 use Rattle.aso_tree.specs.Trees.{places_of}
 use Rattle.aso_outline.specs.declared.draft.Draft.{Draft}
 use Rattle.aso_outline.specs.declared.seat.Seat.TheVariants.{Inner}
@@ -68,8 +68,7 @@ members_of row = map (λ (c : Chosen). c.member) row
 
 -- the member that a tuple has in a base dimension
 abbrev pub member_in : List Chosen → ℕ → Option ℕ
-member_in [] d = None
-member_in (c ∷ row) d = if c.dim == d then Some c.member else member_in row d
+member_in row d = option_map (λ (c : Chosen). c.member) (first (λ (c : Chosen). c.dim == d) row)
 
 abbrev pub tuple_member : Cover → ℕ → ℕ → Option ℕ
 tuple_member r tuple d = option_and_then (λ (row : List Chosen). member_in row d) (slice_get r.rows tuple)

@@ -1,7 +1,8 @@
 // A member of a tuple with the data leaves that it holds.
-ghost use Rattle.std.specs.Prelude.{◌≡◌, ◌<◌, length, true};
+ghost use Rattle.std.specs.Prelude.{◌≡◌, ◌<◌, length, false, true};
 ghost use Rattle.aso_axes.specs.Members.{may_have};
 ghost use Rattle.aso_axes.specs.declared.part.Purpose.TheVariants.{Region as Covers};
+ghost use Rattle.aso_outline.specs.Classes.{has_range};
 ghost use Rattle.aso_outline.specs.Members.{dim_of, resolve, seats};
 ghost use Rattle.aso_outline.specs.Numbers.{hier_of, seat_of};
 ghost use Rattle.aso_region.specs.Kept.{IsChosen};
@@ -40,30 +41,59 @@ fn hier_of(outline: &Outline, m: u32) -> u32
     }
 }
 
-/// The data leaves of a member by their ordinals, if these stand in a row; else by their classes at level 1 of its hierarchy.
-pub fn chosen_of(outline: &Outline, m: u32) -> Chosen
-    requires { may_have outline.now Covers m ≡ true }
+/// The data leaves of a member by their ordinals, which stand in a row.
+fn by_ordinals(outline: &Outline, m: u32) -> Chosen
+    requires member { m < length (seats outline.now) }
+    requires may { may_have outline.now Covers m ≡ true }
+    requires row { has_range outline.now (resolve outline.now (seat_of outline.now m)) 0 ≡ true }
     ensures member { result.member ≡ m }
     ensures exact { IsChosen outline.now result }
 {
     outline.keeps();
-    let dim = dim_of(outline.seat(m));
-    if outline.has_range(m, 0) {
-        let (first, end) = outline.class_range(m, 0);
-        return Chosen {
-            member: m,
-            dim,
-            hier: None,
-            first,
-            end,
-        };
-    }
-    let (first, end) = outline.class_range(m, 1);
+    let seat = outline.seat(m);
+    let dim = dim_of(seat);
+    let range = outline.class_range(m, 0);
     Chosen {
         member: m,
         dim,
-        hier: Some(hier_of(outline, m)),
-        first,
-        end,
+        hier: None,
+        first: range.0,
+        end: range.1,
+    }
+}
+
+/// The data leaves of a member by their classes at level 1 of its hierarchy.
+fn by_classes(outline: &Outline, m: u32) -> Chosen
+    requires member { m < length (seats outline.now) }
+    requires may { may_have outline.now Covers m ≡ true }
+    requires no_row { has_range outline.now (resolve outline.now (seat_of outline.now m)) 0 ≡ false }
+    ensures member { result.member ≡ m }
+    ensures exact { IsChosen outline.now result }
+{
+    outline.keeps();
+    let seat = outline.seat(m);
+    let dim = dim_of(seat);
+    let hier = hier_of(outline, m);
+    let range = outline.class_range(m, 1);
+    Chosen {
+        member: m,
+        dim,
+        hier: Some(hier),
+        first: range.0,
+        end: range.1,
+    }
+}
+
+/// The data leaves of a member by their ordinals, if these stand in a row; else by their classes.
+pub fn chosen_of(outline: &Outline, m: u32) -> Chosen
+    requires member { m < length (seats outline.now) }
+    requires may { may_have outline.now Covers m ≡ true }
+    ensures member { result.member ≡ m }
+    ensures exact { IsChosen outline.now result }
+{
+    if outline.has_range(m, 0) {
+        by_ordinals(outline, m)
+    } else {
+        by_classes(outline, m)
     }
 }

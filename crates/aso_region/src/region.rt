@@ -1,4 +1,7 @@
-ghost use Rattle.std.specs.Prelude.{◌≡◌, ◌<◌, ◌≤◌, length};
+ghost use Rattle.std.specs.Prelude.{◌≡◌, ◌==◌, ◌<◌, ◌≤◌, length};
+ghost use Rattle.std.specs.Option.{option_copied};
+ghost use Rattle.std.specs.List.{find as first};
+ghost use Rattle.aso_region.specs.declared.chosen.Chosen.{Chosen as Kept};
 ghost use Rattle.aso_region.specs.Kept.{covers_kept, member_in as member_in_row, tuple_member};
 
 use crate::chosen::Chosen;
@@ -32,16 +35,26 @@ impl Model for Region {
     ghost invariant = { λ r. length r.cover.rows ≤ 100000 };
 }
 
+fn is_in_dim(chosen: &Chosen, dim: u32) -> bool
+    ensures { result ≡ (chosen.now.dim == dim) }
+{
+    chosen.dim == dim
+}
+
+fn chosen_in(row: &[Chosen], dim: u32) -> Option<&Chosen>
+    ensures { option_copied result ≡ first (λ (c : Kept). c.dim == dim) row.now }
+{
+    row.iter().find(|chosen| is_in_dim(chosen, dim))
+}
+
 /// The member that a tuple has in a base dimension, if it names one.
 fn member_in(row: &[Chosen], dim: u32) -> Option<u32>
     ensures { result ≡ member_in_row row.now dim }
 {
-    for chosen in row {
-        if chosen.dim == dim {
-            return Some(chosen.member);
-        }
+    match chosen_in(row, dim) {
+        Some(chosen) => Some(chosen.member),
+        None => None,
     }
-    None
 }
 
 impl Region {

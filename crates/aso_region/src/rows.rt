@@ -18,7 +18,8 @@ fn row_of(alloc: Global, outline: &Outline, members: &[u32]) -> Result<List<Chos
 {
     let mut row = Vec::new(alloc);
     for m in members {
-        row.push(chosen_of(outline, *m))?;
+        let chosen = chosen_of(outline, *m);
+        row.push(chosen)?;
     }
     Ok(List::of(row))
 }
@@ -34,7 +35,8 @@ pub fn rows_of(
 {
     let mut rows = Vec::new(alloc);
     for members in tuples {
-        rows.push(row_of(alloc, outline, members.items())?)?;
+        let row = row_of(alloc, outline, members.items())?;
+        rows.push(row)?;
     }
     Ok(List::of(rows))
 }

@@ -27,7 +27,8 @@ fn classes_of(
 {
     let mut all = Vec::new(alloc);
     for leaf in 0..outline.leaf_count(dim) {
-        all.push(outline.class_of(dim, hier, 1, leaf))?;
+        let class = outline.class_of(dim, hier, 1, leaf);
+        all.push(class)?;
     }
     Ok(List::of(all))
 }
@@ -67,7 +68,8 @@ fn tables_in(
 {
     let mut all = Vec::new(alloc);
     for hier in 0..outline.hiers(dim) {
-        all.push(table_of(alloc, outline, dim, hier)?)?;
+        let table = table_of(alloc, outline, dim, hier)?;
+        all.push(table)?;
     }
     Ok(List::of(all))
 }
@@ -78,7 +80,8 @@ pub fn tables_of(alloc: Global, outline: &Outline) -> Result<Tables, NoMemory>
 {
     let mut all = Vec::new(alloc);
     for dim in 0..outline.dims() {
-        all.push(tables_in(alloc, outline, dim)?)?;
+        let tables = tables_in(alloc, outline, dim)?;
+        all.push(tables)?;
     }
     Ok(List::of(all))
 }

@@ -1,7 +1,9 @@
 // Reading the text of a region.
-ghost use Rattle.std.specs.Prelude.{◌≡◌, ◌≤◌, ℕ, List, [], length, IfErr, IfOk};
+ghost use Rattle.std.specs.Prelude.{◌≡◌, ℕ, List, [], true, IfErr, IfOk};
+ghost use Rattle.std.specs.List.{list_all};
 ghost use Rattle.aso_outline.specs.declared.draft.Draft.{Draft as Plan};
 ghost use Rattle.aso_axes.specs.declared.part.Purpose.TheVariants.{Region as Covers};
+ghost use Rattle.aso_axes.specs.Members.{may_have};
 ghost use Rattle.aso_axes.specs.Answers.{IsSetRefusal, IsTaken};
 ghost use Rattle.aso_axes.specs.Sets.{rows_of as rows_of_set};
 ghost use Rattle.aso_mdx.specs.declared.query.SetText.{SetText as Set};
@@ -42,6 +44,7 @@ fn of_axis(fault: AxisFault) -> RegionFault
 /// The tuples of a set of stored members.
 fn tuples_of(alloc: Global, outline: &Outline, set: &SetText) -> Result<AxisTuples, AxisFault>
     ensures tuples { IfOk result (λ t. t.rows ≡ rows_of_set outline.now [] set.now) }
+    ensures allowed { IfOk result (λ t. list_all (list_all (may_have outline.now Covers)) t.rows ≡ true) }
     ensures taken { IfOk result (λ t. IsTaken outline.now [] Covers set.now) }
     ensures refused { IfErr result (IsSetRefusal outline.now [] Covers set.now) }
 {
@@ -57,6 +60,7 @@ fn region_of(
     tuples: &AxisTuples,
 ) -> Result<Region, NoMemory>
     requires tuples { tuples.now.rows ≡ rows_of_set outline.now [] set.now }
+    requires allowed { list_all (list_all (may_have outline.now Covers)) tuples.now.rows ≡ true }
     requires taken { IsTaken outline.now [] Covers set.now }
     ensures { IfOk result (IsRegion outline.now (rows_of_set outline.now [] set.now)) }
 {

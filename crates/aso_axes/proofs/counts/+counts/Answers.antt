@@ -12,7 +12,7 @@ count_items-loop-item-preserved t c =
     let i = c.loop-item.item-index in
     let a : ℕ = length (flat_map f (take i items)) in
     let b : ℕ = length (f c.item-item.result) in
-    c.plus.ensures
+    c.plus-count.ensures
     ∙ (ap (λ (x : ℕ). counted (x + c.in_ok-count_rows.result)) c.loop-item.invariant
     ∙ (ap (λ (y : ℕ). counted (counted a + y)) c.in_ok-count_rows.ensures
     ∙ (plus_counted a b
