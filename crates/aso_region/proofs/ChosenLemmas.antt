@@ -111,8 +111,8 @@ module _ (o : Draft) (kept : broken o ≡ None) (m : ℕ) (may : may_have o Cove
         dim = is;
         low = subst (λ (k : ℕ). k < length o.dims) (sym is) low;
         exact = λ leaf below.
-          let under : leaf < leaf_count o d = subst (λ (k : ℕ). leaf < leaf_count o k) is below in
-          ap (λ (x : Option ℕ). unwrap_or (option_map (is_in (f, e)) x) false)
-          (ap (λ (k : ℕ). class_in (all_tables o) k hier leaf) is ∙ (ap (λ (k : ℕ). class_in (all_tables o) d k leaf) (is_hier ∙ at_hier) ∙ class_there o d h leaf low hier_low under table))
-          ∙ by_class leaf under (class_at o d h 1 leaf) refl;
+            let under : leaf < leaf_count o d = subst (λ (k : ℕ). leaf < leaf_count o k) is below in
+            ap (λ (x : Option ℕ). unwrap_or (option_map (is_in (f, e)) x) false)
+            (ap (λ (k : ℕ). class_in (all_tables o) k hier leaf) is ∙ (ap (λ (k : ℕ). class_in (all_tables o) d k leaf) (is_hier ∙ at_hier) ∙ class_there o d h leaf low hier_low under table))
+            ∙ by_class leaf under (class_at o d h 1 leaf) refl;
       }

@@ -96,8 +96,8 @@ module _ (o : Draft) where
       count = as_many;
       member = λ tuple d. named_rows d r.rows all tuple ∙ ap (λ (ts : List (List ℕ)). option_and_then (λ (ms : List ℕ). named_in o ms d) (slice_get ts tuple)) members;
       exactly = λ leaves are.
-        ap (λ (t : _). list_any (list_all (holds_leaf t leaves)) r.rows) tables
-        ∙ (holds_rows leaves are r.rows all ∙ ap (λ (ts : List (List ℕ)). covers o ts leaves) members);
+          ap (λ (t : _). list_any (list_all (holds_leaf t leaves)) r.rows) tables
+          ∙ (holds_rows leaves are r.rows all ∙ ap (λ (ts : List (List ℕ)). covers o ts leaves) members);
     }
 
 -- no more rows than tuples

@@ -43,11 +43,7 @@ fn holds_leaves(tables: &[List<List<Option<u32>>>], leaves: &[u32], row: &[Chose
 }
 
 /// Some tuple covers the cell of these leaves.
-pub fn any_holds(
-    tables: &[List<List<Option<u32>>>],
-    leaves: &[u32],
-    rows: &[List<Chosen>],
-) -> bool
+pub fn any_holds(tables: &[List<List<Option<u32>>>], leaves: &[u32], rows: &[List<Chosen>]) -> bool
     ensures { result ≡ list_any (list_all (holds_leaf_of tables.now leaves.now)) rows.now }
 {
     for row in rows {

@@ -57,7 +57,10 @@ fn regions_of_texts(rt: HostRuntime) -> Result<(), Fail> {
         ("[East]", " -/East/-/ 1100"),
         ("[Measures]", " -/-/Measures/ 1100"),
         ("{[Cost]}", " -/-/Cost/ 0011"),
-        ("crossjoin([Jan],[Big].children)", " Jan/NY/-/ Jan/CA/-/ 1010"),
+        (
+            "crossjoin([Jan],[Big].children)",
+            " Jan/NY/-/ Jan/CA/-/ 1010",
+        ),
         ("{([CA],[Feb]),([MA],[Jan])}", " Feb/CA/-/ Jan/MA/-/ 0101"),
         ("([Sales],[CA])", " -/CA/Sales/ 0000"),
         ("[Jan].children", " 0000"),
@@ -95,7 +98,10 @@ fn the_most_tuples(rt: HostRuntime) -> Result<(), Fail> {
     let alloc = rt.alloc();
     let outline = basic(alloc)?;
     let text = crossing(alloc, 11, 9091)?;
-    assert_eq!(rt; told(alloc, &outline, text.as_str())?.as_str(), "too large 100001");
+    assert_eq!(rt;
+        told(alloc, &outline, text.as_str())?.as_str(),
+        "too large 100001"
+    );
     let text = crossing(alloc, 250, 400)?;
     match read(alloc, &outline, text.as_str()) {
         Ok(region) => {

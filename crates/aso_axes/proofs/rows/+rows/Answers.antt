@@ -14,9 +14,9 @@ pub push_rows-returns-then-branch : goal.push_rows-returns-then-branch
 push_rows-returns-then-branch t c =
     let rows : SetText → List (List ℕ) = rows_of c.args.outline.now c.args.own.now in
     let none : rows c.args.set.now ≡ [] =
-        ap rows c.in-Crossjoin.is
-        ∙ (rows_crossjoin c.args.outline.now c.args.own.now c.in-Crossjoin.left c.in-Crossjoin.right
-        ∙ (ap (λ (s : SetText). crossed (rows s) (rows c.in-Crossjoin.right)) (sym c.get.ensures)
-        ∙ (ap (λ (s : SetText). crossed (rows c.get.result.now) (rows s)) (sym c.get-in-Crossjoin.ensures)
-        ∙ c.in_ok-is_empty_crossing-in-Crossjoin.ensures c.if-branch.true))) in
+    ap rows c.in-Crossjoin.is
+    ∙ (rows_crossjoin c.args.outline.now c.args.own.now c.in-Crossjoin.left c.in-Crossjoin.right
+    ∙ (ap (λ (s : SetText). crossed (rows s) (rows c.in-Crossjoin.right)) (sym c.get.ensures)
+    ∙ (ap (λ (s : SetText). crossed (rows c.get.result.now) (rows s)) (sym c.get-in-Crossjoin.ensures)
+    ∙ c.in_ok-is_empty_crossing-in-Crossjoin.ensures c.if-branch.true))) in
     sym (ap (λ (xs : List (List ℕ)). c.args.rows.now.items ++ xs) none ∙ append-nil c.args.rows.now.items)
