@@ -1,4 +1,0 @@
-pub mod ChosenLemmas
-pub mod CoverLemmas
-pub mod HighLemmas
-pub mod TableLemmas
