@@ -1,4 +1,4 @@
-//! The tuples of sets and queries, and the text of their grids.
+//! The tuples of a set over an outline and a query's own members, or why it has none.
 #![tactic(auto)]
 
 mod axis;
@@ -17,8 +17,3 @@ mod wrong;
 pub use axis::{tuples, tuples_for};
 pub use fault::{AxisFault, AxisTuples};
 pub use part::{Part, Purpose};
-
-#[cfg(test)]
-mod test_outline;
-#[cfg(test)]
-mod tests;

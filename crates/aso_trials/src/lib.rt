@@ -1,5 +1,5 @@
-//! Trials of the layers together, on outlines as users write them: rules, members, formulas, values, data files and load buffers.
-//! It holds tests alone, as tables of texts.
+//! Trials of the layers together, on outlines as users write them: rules, members, formulas, values, sets, data files and
+//! load buffers. It holds tests alone, as tables of texts.
 #![tactic(auto)]
 
 #[cfg(test)]
@@ -14,6 +14,8 @@ mod members;
 mod outlines;
 #[cfg(test)]
 mod rules;
+#[cfg(test)]
+mod sets;
 #[cfg(test)]
 mod tuples;
 #[cfg(test)]
