@@ -122,14 +122,9 @@ module _ (parents : List ℕ) (tree : IsTree parents) where
       -- a child stands before those behind what is below it
       pub one_more : kids parents top c ≡ c ∷ kids parents top to
       one_more =
+          let long : length parents - c ≡ suc (to - (c + 1) + (length parents - to)) = omega (arith, ends.low, ends.fits) in
           ap (λ n. filter (is_child parents top) (range_with_len c n)) long
-          ∙ (ap (λ b. cond b (c ∷ between) between) (eq-eqb _ _ is_one)
+          ∙ (ap (λ b. cond b (c ∷ filter (is_child parents top) (range_with_len (c + 1) (to - (c + 1) + (length parents - to)))) (filter (is_child parents top) (range_with_len (c + 1) (to - (c + 1) + (length parents - to))))) (eq-eqb _ _ is_one)
           ∙ ap (λ xs. c ∷ xs) (
           ap (filter (is_child parents top)) (range_split (to - (c + 1)) (length parents - to) (c + 1) to (omega (arith, ends.low)))
           ∙ (filter-append (is_child parents top) (range_with_len (c + 1) (to - (c + 1))) (range_with_len to (length parents - to)) ∙ ap (λ xs. xs ++ kids parents top to) none_between)))
-        where
-          long : length parents - c ≡ suc (to - (c + 1) + (length parents - to))
-          long = omega (arith, ends.low, ends.fits)
-
-          abbrev between : List ℕ
-          between = filter (is_child parents top) (range_with_len (c + 1) (to - (c + 1) + (length parents - to)))

@@ -85,17 +85,14 @@ abbrev levels : ℕ → ℕ
 levels zero = 0
 levels (suc n) = suc (suc (levels n))
 
+flat_found : (n : ℕ) (below : List Data) (found : Option DraftMember) → AllByRecursion (IsFlat n) below → IsFlat (suc (suc n)) (unwrap_or (option_map (λ m. object_of (member_fields m below)) found) null)
+flat_found n below None all = (refl, omega arith)
+flat_found n below (Some m) all = flat_member n m below all
+
 flat_node : (n : ℕ) (ms : List DraftMember) (at : ℕ) → IsFlat (levels n) (member_value n ms at)
 unfolding member_value
 flat_node zero ms at = (refl, omega arith)
-flat_node (suc n) ms at = there (slice_get ms at)
-  where
-    abbrev below : List Data
-    below = map (member_value n ms) (children_of ms at)
-
-    there : (found : Option DraftMember) → IsFlat (suc (suc (levels n))) (unwrap_or (option_map (λ m. object_of (member_fields m below)) found) null)
-    there None = (refl, omega arith)
-    there (Some m) = flat_member (levels n) m below (flat_map_of (levels n) (member_value n ms) (flat_node n ms) (children_of ms at))
+flat_node (suc n) ms at = flat_found (levels n) (map (member_value n ms) (children_of ms at)) (slice_get ms at) (flat_map_of (levels n) (member_value n ms) (flat_node n ms) (children_of ms at))
 
 flat_root : (ms : List DraftMember) → IsFlat 64 (root_value ms)
 flat_root ms = flat_node 32 ms 0

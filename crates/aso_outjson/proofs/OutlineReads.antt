@@ -1,6 +1,6 @@
 -- What is printed of an outline is read as the outline.
 use Rattle.std.proofs.Common.{◌≡◌, ◌∙◌, ℕ, zero, suc, ◌+◌, ◌*◌, ◌<◌, ◌≤◌, ◌&&◌, Bool, true, false, not, List, [], ◌∷◌, length, map, Option, Some, None, Ok, refl, sym, ap, subst, arith, true≢false, codes}
-use Rattle.std.specs.Prelude.{⊤, IsUtf8, is_some, nat_le, option_map, slice_get, unwrap_or}
+use Rattle.std.specs.Prelude.{⊤, IsUtf8, if◌then◌else◌, option_map, slice_get}
 use Rattle.std.specs.List.{AllByRecursion, AllZip}
 use Rattle.std.proofs.lemmas.Bool.{leb-true, le-leb}
 use Rattle.serde_json.specs.Data.{Data, null, string}
@@ -88,7 +88,7 @@ hier_reads h plain =
     let root_there : get (codes "root") d ≡ Some (root_value h.members) = get_field (codes "root") (hier_fields h) (Some (root_value h.members)) refl in
     bind_ok _ _ _ (need_reads (word_in kind_of) (codes "kind") d (kind_value h.dynamic) (written_kind h.dynamic) kind_there (kind_reads h.dynamic))
     ∙ (bind_ok _ _ _ (need_reads tree_in (codes "root") d (root_value h.members) (record { members = map written_member h.members }) root_there (tree_reads h.members plain))
-    ∙ bind_ok _ _ _ (no_other_fields (is_field Hierarchy) (hier_fields h) refl))
+    ∙ bind_ok _ tt (λ u. Ok (written_hier h)) (no_other_fields (is_field Hierarchy) (hier_fields h) refl))
 
 dim_reads : (x : DraftDim) → IsPlainDim x → dim_in (dim_value x) ≡ Ok (written_dim x)
 unfolding dim_in
@@ -101,35 +101,28 @@ dim_reads x plain =
     bind_ok _ _ _ (need_reads text_in (codes "name") d (string x.name) x.name name_there refl)
     ∙ (bind_ok _ _ _ (may_reads (word_in aggregate_of) All (codes "aggregate") d (aggregate_value x.aggregate) x.aggregate aggregate_there (aggregate_reads x.aggregate))
     ∙ (bind_ok _ _ _ (need_reads (list_in hier_in) (codes "hierarchies") d (list_of (map hier_value x.hiers)) (map written_hier x.hiers) hiers_there hiers_read)
-    ∙ bind_ok _ _ _ (no_other_fields (is_field Dimension) (dim_fields x) refl)))
+    ∙ bind_ok _ tt (λ u. Ok (written_dim x)) (no_other_fields (is_field Dimension) (dim_fields x) refl)))
 
 attr_reads : (a : DraftAttr) → IsPlainAttr a → attr_in (attr_value a) ≡ Ok (written_attr a)
 unfolding attr_in
 attr_reads a plain =
     let d = attr_value a in
-    let name_there : get (codes "name") d ≡ Some (string a.name) = get_field (codes "name") (attr_fields a) (always a.name) refl in
-    let base_there : get (codes "base") d ≡ Some (string a.base) = get_field (codes "base") (attr_fields a) (always a.base) refl in
     let root_there : get (codes "root") d ≡ Some (root_value a.members) = get_field (codes "root") (attr_fields a) (Some (root_value a.members)) refl in
-    bind_ok _ _ _ (need_reads text_in (codes "name") d (string a.name) a.name name_there refl)
-    ∙ (bind_ok _ _ _ (need_reads text_in (codes "base") d (string a.base) a.base base_there refl)
-    ∙ (bind_ok _ _ _ (need_reads tree_in (codes "root") d (root_value a.members) (record { members = map written_member a.members }) root_there (tree_reads a.members plain))
-    ∙ bind_ok _ _ _ (no_other_fields (is_field Attribute) (attr_fields a) refl)))
+    bind_ok _ _ _ (need_reads tree_in (codes "root") d (root_value a.members) (record { members = map written_member a.members }) root_there (tree_reads a.members plain))
 
 pub outline_reads : (o : Draft) → AllByRecursion IsPlainDim o.dims → AllByRecursion IsPlainAttr o.attrs → outline_in (outline_value o) ≡ Ok (written_of o)
 unfolding outline_in
 outline_reads o dims attrs =
     let d = outline_value o in
-    let app_there : get (codes "app") d ≡ Some (string o.app) = get_field (codes "app") (outline_fields o) (always o.app) refl in
     let db_there : get (codes "db") d ≡ Some (string o.db) = get_field (codes "db") (outline_fields o) (always o.db) refl in
     let dims_there : get (codes "dimensions") d ≡ Some (list_of (map dim_value o.dims)) = get_field (codes "dimensions") (outline_fields o) (Some (list_of (map dim_value o.dims))) refl in
     let attrs_there : get (codes "attributes") d ≡ unless_empty (map attr_value o.attrs) = get_field (codes "attributes") (outline_fields o) (unless_empty (map attr_value o.attrs)) refl in
     let dims_read = list_reads dim_in (map dim_value o.dims) (map written_dim o.dims) (each_reads dim_in dim_value written_dim IsPlainDim dim_reads 0 o.dims dims) in
     let attrs_read = list_or_none attr_in (map attr_value o.attrs) (map written_attr o.attrs) (each_reads attr_in attr_value written_attr IsPlainAttr attr_reads 0 o.attrs attrs) in
-    bind_ok _ _ _ (need_reads text_in (codes "app") d (string o.app) o.app app_there refl)
-    ∙ (bind_ok _ _ _ (need_reads text_in (codes "db") d (string o.db) o.db db_there refl)
+    bind_ok _ _ _ (need_reads text_in (codes "db") d (string o.db) o.db db_there refl)
     ∙ (bind_ok _ _ _ (need_reads (list_in dim_in) (codes "dimensions") d (list_of (map dim_value o.dims)) (map written_dim o.dims) dims_there dims_read)
     ∙ (bind_ok _ _ _ (may_reads (list_in attr_in) [] (codes "attributes") d (unless_empty (map attr_value o.attrs)) (map written_attr o.attrs) attrs_there attrs_read)
-    ∙ bind_ok _ _ _ (no_other_fields (is_field Outline) (outline_fields o) refl))))
+    ∙ bind_ok _ tt (λ u. Ok (written_of o)) (no_other_fields (is_field Outline) (outline_fields o) refl)))
 
 -- ---- the draft that is made of it
 

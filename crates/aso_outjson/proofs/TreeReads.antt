@@ -1,10 +1,11 @@
 -- What is printed of a tree is read as its members in preorder.
 use Rattle.std.specs.Prelude.{◌==◌, slice_index, slice_get, option_map, unwrap_or, nat_lt, not, ◌||◌}
-use Rattle.std.proofs.Common.{◌≡◌, ◌∙◌, ℕ, zero, suc, ◌+◌, ◌-◌, ◌<◌, ◌≤◌, ◌^◌, Bool, true, false, List, [], ◌∷◌, ◌++◌, drop, get_or, length, length-map, map, min, take, Option, Some, None, Ok, refl, sym, ap, subst, arith, ⊎_elim, true≢false, codes}
+use Rattle.std.proofs.Common.{◌≡◌, ◌∙◌, ℕ, zero, suc, ◌+◌, ◌-◌, ◌<◌, ◌≤◌, ◌^◌, Bool, true, false, List, [], ◌∷◌, ◌++◌, drop, length, map, min, take, Option, Some, None, Ok, refl, sym, ap, subst, arith, ⊎_elim, true≢false, codes}
 use Rattle.std.specs.Fmt.{decimal}
 use Rattle.std.specs.List.{filter, range_with_len}
 use Rattle.std.proofs.lemmas.Bool.{lt-ltb}
-use Rattle.std.proofs.lemmas.List.{drop-drop, length-take-le, length-drop, take-add, take-length}
+use Rattle.std.proofs.lemmas.List.{drop-drop, length-drop, length-map, length-take-le}
+use Rattle.std.proofs.Math.Seq.{take-add, take-length}
 use Rattle.std.proofs.lemmas.Option.{get_or_from_slice_get}
 use Rattle.serde_json.specs.Data.{Data, null}
 use Rattle.aso_tree.specs.Trees.{depth, is_deep, is_under, stands, places_of, IsTree}
@@ -39,7 +40,7 @@ part_join xs a b c lo hi =
     let behind : drop b xs ≡ drop (b - a) (drop a xs) = ap (λ n. drop n xs) (omega (arith, lo)) ∙ sym (drop-drop (b - a) a xs) in
     ap (λ ys. part xs a b ++ take (c - b) ys) behind ∙ (sym (take-add (b - a) (c - b) (drop a xs)) ∙ ap (λ n. take n (drop a xs)) (omega (arith, lo, hi)))
 
-drop_at : {X : Type 0} (xs : List X) (a : ℕ) (x : X) → slice_get xs a ≡ Some x → drop a xs ≡ x ∷ drop (a + 1) xs
+drop_at : {X : Type 0} (xs : List X) (a : ℕ) (x : X) → slice_get xs a ≡ Some x → drop a xs ≡ x ∷ drop (suc a) xs
 drop_at [] a x is = absurd (let n : ⊥ = cc in n)
 drop_at (y ∷ ys) zero x is = let same : y ≡ x = cc in ap (λ z. z ∷ ys) same
 drop_at (y ∷ ys) (suc a) x is = drop_at ys a x is
@@ -47,7 +48,8 @@ drop_at (y ∷ ys) (suc a) x is = drop_at ys a x is
 part_cons : {X : Type 0} (xs : List X) (a b : ℕ) (x : X) → a < b → slice_get xs a ≡ Some x → x ∷ part xs (a + 1) b ≡ part xs a b
 part_cons xs a b x low is =
     let longer : suc (b - (a + 1)) ≡ b - a = omega (arith, low) in
-    ap (λ n. take n (x ∷ drop (a + 1) xs)) longer ∙ ap (take (b - a)) (sym (drop_at xs a x is))
+    let next : a + 1 ≡ suc a = omega arith in
+    ap (λ k. x ∷ take (b - (a + 1)) (drop k xs)) next ∙ ap (λ n. take n (x ∷ drop (suc a) xs)) longer ∙ ap (take (b - a)) (sym (drop_at xs a x is))
 
 map_get : {X Y : Type 0} (f : X → Y) (xs : List X) (a : ℕ) (x : X) → slice_get xs a ≡ Some x → slice_get (map f xs) a ≡ Some (f x)
 map_get f [] a x is = absurd (let n : ⊥ = cc in n)
@@ -121,16 +123,22 @@ module _ (ms : List DraftMember) (tree : IsTree (parents_of ms)) (short : length
           ap (λ k. joined f i k (map (member_value n ms) (kids parents at k))) same
           ∙ (ap (λ ks. joined f i end (map (member_value n ms) ks)) (none_left parents tree short_parents at end e) ∙ ap (λ k. Ok (take k (drop c written))) none)
 
+      read_more : (i c : ℕ) → IsBorder parents at end c → c < end → ((to : ℕ) → c < to → IsBorder parents at end to → joined f (i + 1) to (map (member_value n ms) (kids parents at to)) ≡ Ok (part written to end))
+          → joined f i c (map (member_value n ms) (kids parents at c)) ≡ Ok (part written c end)
+      read_more i c border low later =
+          let r = ends parents tree c (omega (arith, low, e.fits)) in
+          let after : c < r.0 = omega (arith, r.1) in
+          let next = next_border parents tree short_parents at end e c r.0 border low r.2 in
+          ap (λ ks. joined f i c (map (member_value n ms) ks)) (one_more parents tree short_parents at end e c r.0 border low r.2)
+          ∙ joins i c r.0 (map (member_value n ms) (kids parents at r.0)) after next.1 (child_reads c r.0 border.0 (border.2 low) r.2) (later r.0 after next)
+
       children_read : (fuel i c : ℕ) → end ≤ c + fuel → IsBorder parents at end c → joined f i c (map (member_value n ms) (kids parents at c)) ≡ Ok (part written c end)
       children_read zero i c enough border = all_read i c (omega (arith, enough, border.1))
-      children_read (suc fuel) i c enough border = ⊎_elim (λ (past : end ≤ c). all_read i c (omega (arith, past, border.1))) (λ (low : c < end). more low) (le_or_lt end c)
-        where
-          more : c < end → joined f i c (map (member_value n ms) (kids parents at c)) ≡ Ok (part written c end)
-          more low =
-              let r = ends parents tree c (omega (arith, low, e.fits)) in
-              let next = next_border parents tree short_parents at end e c r.0 border low r.2 in
-              ap (λ ks. joined f i c (map (member_value n ms) ks)) (one_more parents tree short_parents at end e c r.0 border low r.2)
-              ∙ joins i c r.0 (map (member_value n ms) (kids parents at r.0)) (omega (arith, r.1)) next.1 (child_reads c r.0 border.0 (border.2 low) r.2) (children_read fuel (i + 1) r.0 (omega (arith, enough, r.1)) next)
+      children_read (suc fuel) i c enough border =
+          ⊎_elim
+          (λ (past : end ≤ c). all_read i c (omega (arith, past, border.1)))
+          (λ (low : c < end). read_more i c border low (λ to after next. children_read fuel (i + 1) to (omega (arith, enough, after)) next))
+          (le_or_lt end c)
 
       module _ (m : DraftMember) (there : slice_get ms at ≡ Some m) where
         abbrev below : List Data
@@ -150,11 +158,13 @@ module _ (ms : List DraftMember) (tree : IsTree (parents_of ms)) (short : length
         unfolding tree_at
         tree_reads =
             let d = object_of (member_fields m below) in
+            let more : suc n + 95 ≡ suc (n + 95) = omega arith in
             ap (tree_at (suc n + 95) (slice_index parents at) at) value_is
+            ∙ (ap (λ k. tree_at k (slice_index parents at) at d) more
             ∙ (bind_ok _ _ _ (member_reads m below (slice_index parents at) (parent_of at m there) (orders at m there))
             ∙ (bind_ok _ _ _ (may_reads (lists_in f (at + 1)) [] (codes "children") d (unless_empty below) (part written (at + 1) end) (children_there m below) (lists_or_none f (at + 1) below (part written (at + 1) end) below_reads))
             ∙ (bind_ok _ _ _ (no_other_fields (is_field Member) (member_fields m below) refl)
-            ∙ ap (λ xs. Ok xs) (part_cons written at end (written_member m) e.low (map_get written_member ms at m there)))))
+            ∙ ap (λ xs. Ok xs) (part_cons written at end (written_member m) e.low (map_get written_member ms at m there))))))
 
     node_reads : (n : ℕ) → Reads n
     node_reads zero at end e levels = absurd (omega (arith, levels, depth_bound at (omega (arith, long, e.low, e.fits))))
@@ -177,5 +187,6 @@ module _ (ms : List DraftMember) (tree : IsTree (parents_of ms)) (short : length
           stop = λ past. absurd (omega (arith, long, past));
         } in
         let top : depth parents 0 ≡ 0 = refl in
-        let all : part written 0 (length ms) ≡ written = ap (λ k. take k written) (sym long_written) ∙ take-length written in
+        let long_enough : length ms - 0 ≡ length written = omega (arith, long_written) in
+        let all : part written 0 (length ms) ≡ written = ap (λ k. take k written) long_enough ∙ take-length written in
         bind_ok _ _ _ (ap (λ p. tree_at 127 p 0 (root_value ms)) (sym (root_has_none parents tree short_parents (omega (arith, long, some)))) ∙ (node_reads 32 0 (length ms) whole (omega (arith, top)) ∙ ap (λ xs. Ok xs) all))

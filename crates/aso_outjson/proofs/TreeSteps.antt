@@ -88,6 +88,10 @@ module _ (ms : List DraftMember) (tree : IsTree (parents_of ms)) (short : length
         ∙ (ap (λ ks. below ++ map (child_value ms at) ks) (sym (one_more parents tree short_list at (end_of ms at) e next (end_of ms next) walked.0 before ends)) ∙ walked.1)),
       )
 
+  -- what stands below a child ends behind it
+  pub goes_past : (next : ℕ) → is_next ms at next ≡ true → (next < end_of ms next) × (next < length ms)
+  goes_past next is = let there = child_there next is in ((ends_by_count parents tree next (length (under parents next)) there.0 refl).low, omega (arith, there.0, long))
+
   pub walk_ends : (below : List Data) (next : ℕ) → Walks ms at below next → is_next ms at next ≡ false → next ≡ end_of ms at
   walk_ends below next walked none =
       ⊎_elim

@@ -161,7 +161,7 @@ abbrev pub AreSoundDims : List DraftDim → Type 0
 AreSoundDims ds = (k : ℕ) (d : DraftDim) → slice_get ds k ≡ Some d → AreSoundHiers d.hiers
 
 abbrev pub AreSoundAttrs : List DraftAttr → Type 0
-AreSoundAttrs as = (k : ℕ) (a : DraftAttr) → slice_get as k ≡ Some a → IsSound a.members
+AreSoundAttrs bs = (k : ℕ) (a : DraftAttr) → slice_get bs k ≡ Some a → IsSound a.members
 
 -- ---- formulas that a text spells
 
