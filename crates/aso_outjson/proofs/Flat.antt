@@ -66,20 +66,16 @@ flat_aggregate n All = tt
 flat_aggregate n Top = (refl, omega arith)
 flat_aggregate n Bottom = (refl, omega arith)
 
+flat_kind : (n : ℕ) (dynamic : Bool) → IsFlat n (kind_value dynamic)
+flat_kind n dynamic = (refl, omega arith)
+
 -- ---- objects
 
 flat_member : (n : ℕ) (m : DraftMember) (below : List Data) → AllByRecursion (IsFlat n) below → IsFlat (suc (suc n)) (object_of (member_fields m below))
 flat_member n m below all = flat_object (suc n) (member_fields m below) (
-    flat_unless_empty n (map string m.carries) (flat_map_of n string (flat_text n) m.carries),
-    flat_unless_empty n below all,
-    flat_formula (suc n) m.formula,
-    flat_flag (suc n) m.label_only,
-    flat_text (suc n) m.name,
-    flat_op (suc n) m.op,
-    flat_flag (suc n) m.shared,
-    flat_solve (suc n) m.solve,
-    tt,
-  )
+  flat_unless_empty n (map string m.carries) (flat_map_of n string (flat_text n) m.carries),
+  (flat_unless_empty n below all, (flat_formula (suc n) m.formula, (flat_flag (suc n) m.label_only, (flat_text (suc n) m.name, (flat_op (suc n) m.op, (flat_flag (suc n) m.shared, (flat_solve (suc n) m.solve, tt))))))),
+)
 
 abbrev levels : ℕ → ℕ
 levels zero = 0
@@ -98,19 +94,16 @@ flat_root : (ms : List DraftMember) → IsFlat 64 (root_value ms)
 flat_root ms = flat_node 32 ms 0
 
 flat_hier : (h : DraftHier) → IsFlat 65 (hier_value h)
-flat_hier h = flat_object 64 (hier_fields h) (flat_text 64 _, flat_root h.members, tt)
+flat_hier h = flat_object 64 (hier_fields h) (flat_kind 64 h.dynamic, (flat_root h.members, tt))
 
 flat_dim : (d : DraftDim) → IsFlat 67 (dim_value d)
-flat_dim d = flat_object 66 (dim_fields d) (flat_aggregate 66 d.aggregate, flat_list 65 (map hier_value d.hiers) (flat_map_of 65 hier_value flat_hier d.hiers), flat_text 66 d.name, tt)
+flat_dim d = flat_object 66 (dim_fields d) (flat_aggregate 66 d.aggregate, (flat_list 65 (map hier_value d.hiers) (flat_map_of 65 hier_value flat_hier d.hiers), (flat_text 66 d.name, tt)))
 
 flat_attr : (a : DraftAttr) → IsFlat 67 (attr_value a)
-flat_attr a = let flat = flat_object 64 (attr_fields a) (flat_text 64 a.base, flat_text 64 a.name, flat_root a.members, tt) in (flat.0, omega (arith, flat.1))
+flat_attr a = let flat = flat_object 64 (attr_fields a) (flat_text 64 a.base, (flat_text 64 a.name, (flat_root a.members, tt))) in (flat.0, omega (arith, flat.1))
 
 pub flat_outline : (o : Draft) → IsFlat 69 (outline_value o)
 flat_outline o = flat_object 68 (outline_fields o) (
-    flat_text 68 o.app,
-    flat_unless_empty 67 (map attr_value o.attrs) (flat_map_of 67 attr_value flat_attr o.attrs),
-    flat_text 68 o.db,
-    flat_list 67 (map dim_value o.dims) (flat_map_of 67 dim_value flat_dim o.dims),
-    tt,
-  )
+  flat_text 68 o.app,
+  (flat_unless_empty 67 (map attr_value o.attrs) (flat_map_of 67 attr_value flat_attr o.attrs), (flat_text 68 o.db, (flat_list 67 (map dim_value o.dims) (flat_map_of 67 dim_value flat_dim o.dims), tt))),
+)

@@ -12,3 +12,4 @@ pub mod OutlineReads
 pub mod Flat
 pub mod Sound
 pub mod TreeSteps
+pub mod Printed
