@@ -14,6 +14,3 @@ pub use buffer::Buffer;
 pub use fault::BufferFault;
 pub use kind::Kind;
 pub use records::Records;
-
-#[cfg(test)]
-mod tests;

@@ -18,8 +18,3 @@ pub use fault::CalcFault;
 pub use stored::StoredValues;
 pub use unfolding::{value, values};
 pub use visits::needs;
-
-#[cfg(test)]
-mod test_outlines;
-#[cfg(test)]
-mod value_tests;

@@ -12,6 +12,4 @@ pub use printing::print;
 pub use text::{parse, read};
 
 #[cfg(test)]
-mod read_tests;
-#[cfg(test)]
 mod tests;

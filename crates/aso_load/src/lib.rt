@@ -16,6 +16,3 @@ mod told;
 pub use aso_num::NoMemory;
 pub use load_file::load;
 pub use loaded::{Loaded, Reject};
-
-#[cfg(test)]
-mod tests;

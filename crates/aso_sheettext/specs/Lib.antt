@@ -1,0 +1,9 @@
+pub mod Answer
+pub mod Faults
+pub mod Held
+pub mod Lines
+pub mod Reading
+pub mod Says
+pub mod Sheet
+pub mod Texts
+pub mod Written
