@@ -90,15 +90,15 @@ formula_reads (Some e) = refl
 -- the member with its formula as a text
 abbrev pub written_member : DraftMember → WrittenMember
 written_member m = record {
-    name = m.name;
-    parent = m.parent;
-    shared = m.shared;
-    label_only = m.label_only;
-    op = m.op;
-    solve = m.solve;
-    formula = option_map formula_text m.formula;
-    carries = m.carries;
-  }
+  name = m.name;
+  parent = m.parent;
+  shared = m.shared;
+  label_only = m.label_only;
+  op = m.op;
+  solve = m.solve;
+  formula = option_map formula_text m.formula;
+  carries = m.carries;
+}
 
 module _ (m : DraftMember) (below : List Data) where
   abbrev d : Data

@@ -179,7 +179,7 @@ members_spelled ws ms zip = zip_all IsMember (λ (m : DraftMember). IsSpelled m.
 draft_spelled_in : (w : Written) (o : Draft) → IsDraft w o → AreSpelled o
 draft_spelled_in w o is = (
   zip_all IsDim (λ (d : DraftDim). AllByRecursion (λ (h : DraftHier). AreSpelledIn h.members) d.hiers)
-  (λ x d there. zip_all IsHier (λ (h : DraftHier). AreSpelledIn h.members) (λ y h at. members_spelled y.root.members h.members at.0) x.hiers d.hiers there.0) w.dims o.dims is.0,
+      (λ x d there. zip_all IsHier (λ (h : DraftHier). AreSpelledIn h.members) (λ y h at. members_spelled y.root.members h.members at.0) x.hiers d.hiers there.0) w.dims o.dims is.0,
   zip_all IsAttr (λ (a : DraftAttr). AreSpelledIn a.members) (λ x a there. members_spelled x.root.members a.members there.0) w.attrs o.attrs is.1,
 )
 

@@ -84,8 +84,8 @@ module _ (ms : List DraftMember) (tree : IsTree (parents_of ms)) (short : length
       subst (λ k. Walks ms at new k) (sym after_is) (
         border,
         ap (λ ds. ds ++ map (child_value ms at) (kids parents at (end_of ms next))) (new_is ∙ ap (λ d. below ++ d ∷ []) same)
-        ∙ (append_assoc below (child_value ms at next ∷ []) (map (child_value ms at) (kids parents at (end_of ms next)))
-        ∙ (ap (λ ks. below ++ map (child_value ms at) ks) (sym (one_more parents tree short_list at (end_of ms at) e next (end_of ms next) walked.0 before ends)) ∙ walked.1)),
+            ∙ (append_assoc below (child_value ms at next ∷ []) (map (child_value ms at) (kids parents at (end_of ms next)))
+            ∙ (ap (λ ks. below ++ map (child_value ms at) ks) (sym (one_more parents tree short_list at (end_of ms at) e next (end_of ms next) walked.0 before ends)) ∙ walked.1)),
       )
 
   -- what stands below a child ends behind it

@@ -10,7 +10,9 @@ ghost use Rattle.aso_outjson.specs.Printing.{AreSoundAttrs, AreSoundDims, AreSou
 
 use aso_memory::NoMemory;
 use aso_num::Text;
-use aso_outline::{Aggregate, Draft, DraftAttr, DraftDim, DraftHier, DraftMember, Expr, Op, Outline};
+use aso_outline::{
+    Aggregate, Draft, DraftAttr, DraftDim, DraftHier, DraftMember, Expr, Op, Outline,
+};
 use serde_json::{Map, Value, put};
 use std::alloc::{AllocError, Global};
 
@@ -205,7 +207,12 @@ fn dim(alloc: Global, d: &DraftDim) -> Result<Value, NoMemory>
     put_field(alloc, "name", always(alloc, d.name.as_str())?, &mut fields)?;
     let hiers = hiers(alloc, d.hiers.items())?;
     put_field(alloc, "hierarchies", Some(Value::Array(hiers)), &mut fields)?;
-    put_field(alloc, "aggregate", aggregate(alloc, d.aggregate)?, &mut fields)?;
+    put_field(
+        alloc,
+        "aggregate",
+        aggregate(alloc, d.aggregate)?,
+        &mut fields,
+    )?;
     Ok(Value::Object(fields))
 }
 
@@ -254,7 +261,12 @@ fn value(alloc: Global, draft: &Draft) -> Result<Value, NoMemory>
     put_field(alloc, "db", always(alloc, draft.db.as_str())?, &mut fields)?;
     let attrs = attrs(alloc, draft.attrs.items())?;
     put_field(alloc, "attributes", unless_empty(attrs), &mut fields)?;
-    put_field(alloc, "app", always(alloc, draft.app.as_str())?, &mut fields)?;
+    put_field(
+        alloc,
+        "app",
+        always(alloc, draft.app.as_str())?,
+        &mut fields,
+    )?;
     Ok(Value::Object(fields))
 }
 
