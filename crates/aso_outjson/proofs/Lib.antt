@@ -4,3 +4,12 @@ pub mod Pointers
 pub mod Spelled
 pub mod Once
 pub mod Examples
+pub mod FieldLists
+pub mod Below
+pub mod MemberReads
+pub mod TreeReads
+pub mod OutlineReads
+pub mod Flat
+pub mod Sound
+pub mod TreeSteps
+pub mod Printed

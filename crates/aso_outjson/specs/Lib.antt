@@ -6,3 +6,4 @@ pub mod Members
 pub mod Objects
 pub mod Formulas
 pub mod Answers
+pub mod Printing

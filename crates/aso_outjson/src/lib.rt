@@ -12,12 +12,14 @@ mod part;
 mod parts;
 mod path;
 mod pointer;
+mod printing;
 mod reading;
 mod trouble;
 mod values;
 mod written;
 
 pub use fault::JsonFault;
+pub use printing::print;
 pub use reading::read;
 
 #[cfg(test)]

@@ -1,3 +1,4 @@
 mod basic;
 mod faults;
+mod printed;
 mod told;
