@@ -2,7 +2,7 @@
 use Rattle.std.proofs.Common.{◌≡◌, ℕ, List, false}
 use Rattle.aso_token.specs.Reads.{tokens_of}
 use Rattle.aso_token.specs.Cutting.{cut}
-use Rattle.aso_token.proofs.Laws.{text_one}
+use Rattle.aso_token.proofs.Wholes.{text_one}
 use Rattle.aso_outline.specs.declared.draft.Expr.{Expr}
 use Rattle.aso_formula.specs.Formula.{Formula, SpellsFormula}
 use Rattle.aso_formula.specs.Reading.{read_sum, read_factor}

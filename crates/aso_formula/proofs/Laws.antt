@@ -5,7 +5,10 @@ use Rattle.aso_token.specs.declared.token.Token.TheVariants.{Number, Name, Mark}
 use Rattle.aso_token.specs.declared.token.Mark.TheVariants.{Comma, Open, Close, Plus, Minus, Star, Slash}
 use Rattle.aso_token.specs.Lang.{Lang, One, Then, Or, Makes, Chain}
 use Rattle.aso_token.specs.Reads.{Read, ◌>>=◌, paired, made, begins, begin, begins_second, with_rest, read_one, read_then, read_if, read_chain, passes}
-use Rattle.aso_token.proofs.Laws.{Law, Halts, either, one_law, then_law, as_law, or_law, or_two_law, chain_law, loosen, one_heads, many_follow, halts_first, halts_second, never_halts, fails, ok_err, bad, err_is, onward_start, onward_end}
+use Rattle.aso_token.proofs.Laws.{Law, Halts, either, one_law, loosen, halts_first, halts_second, never_halts, fails, ok_err, bad, err_is}
+use Rattle.aso_token.proofs.Sequences.{then_law, as_law}
+use Rattle.aso_token.proofs.Choices.{or_law, or_two_law}
+use Rattle.aso_token.proofs.Lists.{chain_law, one_heads, many_follow, onward_start, onward_end}
 use Rattle.aso_outline.specs.declared.draft.Op.{Op}
 use Rattle.aso_outline.specs.declared.draft.Expr.{Expr}
 use Rattle.aso_outline.specs.declared.draft.Expr.TheVariants.{Cell}

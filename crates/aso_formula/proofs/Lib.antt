@@ -1,6 +1,5 @@
 pub mod Again
 pub mod Answered
-pub mod AtomLemmas
 pub mod Joins
 pub mod Laws
 pub mod Numbers

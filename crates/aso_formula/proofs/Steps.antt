@@ -5,7 +5,8 @@ use Rattle.aso_token.specs.declared.token.Token.TheVariants.{Name, Mark}
 use Rattle.aso_token.specs.declared.token.Mark.TheVariants.{Comma, Open, Minus}
 use Rattle.aso_token.specs.Lang.{One}
 use Rattle.aso_token.specs.Reads.{Read, ◌>>=◌, paired, second, made, begins, read_one, read_chain, onward, front_of, passes}
-use Rattle.aso_token.proofs.Laws.{if_false, not_front, onward_start, onward_fail, one_law}
+use Rattle.aso_token.proofs.Laws.{if_false, not_front, one_law}
+use Rattle.aso_token.proofs.Lists.{onward_start, onward_fail}
 use Rattle.aso_outline.specs.declared.draft.Expr.{Expr}
 use Rattle.aso_token.specs.Marks.{comma, open_mark, close_mark, name}
 use Rattle.aso_formula.specs.Formula.{minus, atom, negative, inner, cross, names_of}

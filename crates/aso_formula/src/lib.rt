@@ -1,7 +1,6 @@
 //! Formula texts: reading one, by itself or against an outline, and printing a formula with the fewest parentheses.
 #![tactic(auto)]
 
-mod atoms;
 mod fault;
 mod places;
 mod printing;

@@ -4,7 +4,6 @@ ghost use Rattle.aso_outline.specs.declared.draft.Expr.{Expr as Formula};
 ghost use Rattle.aso_formula.specs.Formula.{SpellsFormula};
 ghost use Rattle.aso_formula.specs.Answer.{HasFault, IsRefusal, IsRight, IsWrong, Judges, Reads};
 
-use crate::atoms::first_foreign;
 use crate::fault::FormulaFault;
 use crate::places::{first_unknown, foreign_fault, unknown_fault};
 use crate::reading::parse_tokens;
@@ -66,7 +65,7 @@ fn check(
     if let Some(placed) = first_unknown(outline, tokens) {
         return Err(unknown_fault(alloc, outline, placed));
     }
-    match first_foreign(alloc, outline, dim, formula) {
+    match outline.first_foreign(alloc, dim, formula) {
         Ok(Some(atom)) => Err(foreign_fault(alloc, tokens, atom)),
         Ok(None) => Ok(()),
         Err(e) => Err(FormulaFault::NoMemory(e)),

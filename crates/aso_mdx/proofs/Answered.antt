@@ -6,7 +6,8 @@ use Rattle.aso_token.specs.declared.stop.Stop.TheVariants.{NoMemory, At}
 use Rattle.aso_token.specs.Lang.{Lang}
 use Rattle.aso_token.specs.Reads.{tokens_of, finished, Answers, FaultIn, Read}
 use Rattle.aso_token.specs.Cutting.{cut}
-use Rattle.aso_token.proofs.Laws.{Law, text_found, text_only, text_fault, text_one}
+use Rattle.aso_token.proofs.Laws.{Law}
+use Rattle.aso_token.proofs.Wholes.{text_found, text_only, text_fault, text_one}
 use Rattle.aso_mdx.specs.declared.query.SetText.{SetText}
 use Rattle.aso_mdx.specs.declared.query.Query.{Query}
 use Rattle.aso_mdx.specs.Grammar.{SetTokens, SpellsSet, QueryTokens, SpellsQuery}

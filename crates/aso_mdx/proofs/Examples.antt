@@ -4,7 +4,7 @@ use Rattle.aso_token.specs.declared.token.Token.{Token}
 use Rattle.aso_token.specs.declared.token.Token.TheVariants.{Word, Quoted, Name, Mark}
 use Rattle.aso_token.specs.declared.token.Mark.TheVariants.{Dot, Comma, Open, Close, OpenSet, CloseSet}
 use Rattle.aso_token.specs.Words.{is_word}
-use Rattle.aso_token.proofs.Laws.{text_found}
+use Rattle.aso_token.proofs.Wholes.{text_found}
 use Rattle.aso_mdx.specs.declared.query.SetText.TheVariants.{Braced, Member}
 use Rattle.aso_mdx.specs.declared.query.Query.{Query}
 use Rattle.aso_mdx.specs.Grammar.{QueryTokens}

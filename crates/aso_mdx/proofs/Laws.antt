@@ -7,7 +7,10 @@ use Rattle.aso_token.specs.declared.token.Token.TheVariants.{Word, Name, Mark}
 use Rattle.aso_token.specs.declared.token.Mark.TheVariants.{Dot, Comma, Open, Close, OpenSet, CloseSet}
 use Rattle.aso_token.specs.Lang.{Lang, One, Then, Or, Makes, Empty, Many, Chain, ◌▷◌, ◌◁◌}
 use Rattle.aso_token.specs.Reads.{Read, ◌>>=◌, taken, paired, second, made, begins, begin, begins_second, read_one, read_then, read_as, read_if, read_if_two, read_many, read_chain, read_empty, passes, ◌▸◌, ◌◂◌}
-use Rattle.aso_token.proofs.Laws.{Law, Halts, Never, either, one_law, then_law, then_never, right_never, left_never, as_law, or_law, or_two_law, chain_law, pairs_law, empty_law, loosen, one_heads, halts_first, halts_second, never_halts, fails, if_false, ok_err}
+use Rattle.aso_token.proofs.Laws.{Law, Halts, either, one_law, loosen, halts_first, halts_second, never_halts, fails, if_false, ok_err}
+use Rattle.aso_token.proofs.Sequences.{Never, then_law, then_never, right_never, left_never, as_law}
+use Rattle.aso_token.proofs.Choices.{or_law, or_two_law, empty_law}
+use Rattle.aso_token.proofs.Lists.{chain_law, pairs_law, one_heads}
 use Rattle.aso_token.specs.Marks.{comma, open_mark, close_mark}
 use Rattle.aso_token.specs.Words.{is_word, key, known, part, dot, open_set, close_set}
 use Rattle.aso_mdx.specs.declared.query.SetText.{SetText}

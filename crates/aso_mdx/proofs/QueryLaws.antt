@@ -7,7 +7,10 @@ use Rattle.aso_token.specs.declared.token.Token.TheVariants.{Word, Number, Quote
 use Rattle.aso_token.specs.declared.token.Mark.TheVariants.{Dot, OpenSet, Equals}
 use Rattle.aso_token.specs.Lang.{Lang, One, Then, Or, Makes, Empty, UpTo, Maybe, ◌▷◌, ◌◁◌}
 use Rattle.aso_token.specs.Reads.{Read, ◌>>=◌, made, begins, begin, read_one, read_then, read_as, read_if, read_if_two, read_upto, read_empty, read_maybe, passes, ◌▸◌, ◌◂◌}
-use Rattle.aso_token.proofs.Laws.{Law, Halts, Never, either, one_law, then_law, then_never, right_never, left_never, as_law, or_law, or_two_law, upto_law, empty_law, loosen, one_heads, many_follow, halts_first, halts_second, never_halts, fails, if_false}
+use Rattle.aso_token.proofs.Laws.{Law, Halts, either, one_law, loosen, halts_first, halts_second, never_halts, fails, if_false}
+use Rattle.aso_token.proofs.Sequences.{Never, then_law, then_never, right_never, left_never, as_law}
+use Rattle.aso_token.proofs.Choices.{or_law, or_two_law, empty_law}
+use Rattle.aso_token.proofs.Lists.{upto_law, one_heads, many_follow}
 use Rattle.aso_token.specs.Marks.{comma, open_mark, name}
 use Rattle.aso_token.specs.Words.{is_word, key, known, part, whole, dot, open_set, equals}
 use Rattle.aso_mdx.specs.declared.query.SetText.{SetText}

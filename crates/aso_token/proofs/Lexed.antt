@@ -5,13 +5,13 @@ use Rattle.std.proofs.Math.Seq.{take-append_seam, drop-append_seam}
 use Rattle.std.proofs.lemmas.Bool.{lt-ltb}
 use Rattle.aso_num.specs.AmountText.{digits_len}
 use Rattle.aso_token.specs.declared.token.Token.{Token}
-use Rattle.aso_token.specs.declared.token.Token.TheVariants.{Word, Number, Quoted, Name, Mark as AMark}
-use Rattle.aso_token.specs.declared.token.Mark.TheVariants.{Dot, Comma, Open, Close, OpenSet, CloseSet, Plus, Minus, Star, Slash, Equals}
+use Rattle.aso_token.specs.declared.token.Token.TheVariants.{Number, Name, Mark as AMark}
+use Rattle.aso_token.specs.declared.token.Mark.TheVariants.{Comma, Open, Close, Plus, Minus, Star, Slash}
 use Rattle.aso_token.specs.declared.token.Placed.{Placed}
 use Rattle.aso_token.specs.declared.front.Span.{Span}
 use Rattle.aso_token.specs.declared.front.Front.{Front}
 use Rattle.aso_token.specs.declared.cutting.Cut.{Cut}
-use Rattle.aso_token.specs.Lexing.{is_digit, is_letter, is_blank, until, number_len, with_decimals, name_span, closed, open_at_end, behind, content, with_token, number_front, name_front, front_of}
+use Rattle.aso_token.specs.Lexing.{is_digit, is_letter, is_blank, until, number_len, with_decimals, name_span, closed, open_at_end, behind, content, with_token, number_front, front_of}
 use Rattle.aso_token.specs.Cutting.{placed_of, joined, cut_from}
 use Rattle.aso_token.specs.Reads.{tokens_of}
 use Rattle.aso_token.proofs.Laws.{if_true, if_false}

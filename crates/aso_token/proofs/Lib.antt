@@ -1,5 +1,9 @@
 pub mod Pieces
 pub mod Laws
+pub mod Sequences
+pub mod Choices
+pub mod Lists
+pub mod Wholes
 pub mod Lexed
 pub mod Spans
 pub mod Texts

@@ -1,5 +1,5 @@
 -- Where pieces of a text end: at a boundary of characters.
-use Rattle.std.proofs.Common.{◌≡◌, ℕ, zero, suc, ◌+◌, ◌-◌, ◌≤◌, ◌<◌, Bool, true, false, not, ◌&&◌, ◌||◌, ◌==◌, List, [], ◌∷◌, length, take, drop, get_or, refl, sym, ◌∙◌, ap, subst, arith, if◌then◌else◌, MatchBool, nat_lt, Option}
+use Rattle.std.proofs.Common.{◌≡◌, ℕ, zero, suc, ◌+◌, ◌-◌, ◌≤◌, ◌<◌, Bool, true, false, not, ◌&&◌, ◌==◌, List, [], ◌∷◌, length, drop, get_or, refl, sym, ◌∙◌, ap, subst, arith, if◌then◌else◌, nat_lt, Option}
 use Rattle.std.specs.List.{prefix_len}
 use Rattle.std.specs.Str.{IsUtf8, IsCharBoundary}
 use Rattle.std.proofs.lemmas.Bool.{eqb-true}
@@ -10,7 +10,7 @@ use Rattle.aso_num.specs.AmountText.{digits_len, is_digit}
 use Rattle.aso_token.specs.declared.token.Token.{Token}
 use Rattle.aso_token.specs.declared.front.Span.{Span}
 use Rattle.aso_token.specs.declared.front.Front.{Front}
-use Rattle.aso_token.specs.Lexing.{is_letter, is_word_byte, word_len, number_len, with_decimals, until, name_span, quoted_from, quoted_span, comment_from, comment_span, closed, open_at_end, behind, content_len, single, EndsWith}
+use Rattle.aso_token.specs.Lexing.{is_word_byte, word_len, number_len, with_decimals, until, quoted_from, quoted_span, comment_from, comment_span, closed, open_at_end, behind, content_len, single, EndsWith}
 
 -- ---- fronts of bytes that are ASCII
 

@@ -1,12 +1,11 @@
 -- How a text is cut into tokens.
-use Rattle.std.specs.Prelude.{◌≡◌, ◌≤◌, ◌<◌, ℕ, zero, suc, ◌+◌, ◌-◌, Bool, true, false, not, ◌&&◌, ◌||◌, ◌==◌, List, [], ◌∷◌, ◌++◌, length, take, drop, Option, Some, None, option_map, if◌then◌else◌, nat_le, nat_lt, slice_index, MatchBool}
+use Rattle.std.specs.Prelude.{◌≡◌, ◌≤◌, ℕ, ◌+◌, ◌-◌, Bool, true, false, not, ◌&&◌, ◌||◌, ◌==◌, List, [], ◌∷◌, length, take, drop, Option, Some, None, option_map, if◌then◌else◌, nat_le, nat_lt, slice_index, MatchBool}
 use Rattle.std.specs.List.{prefix_len}
 use Rattle.aso_num.specs.AmountText.{is_digit as is_decimal, digits_len}
 use Rattle.aso_token.specs.declared.token.Token.{Token}
 use Rattle.aso_token.specs.declared.token.Token.TheVariants.{Word, Number, Quoted, Name, Mark as AMark}
 use Rattle.aso_token.specs.declared.token.Mark.{Mark}
 use Rattle.aso_token.specs.declared.token.Mark.TheVariants.{Dot, Comma, Open, Close, OpenSet, CloseSet, Plus, Minus, Star, Slash, Equals}
-use Rattle.aso_token.specs.declared.token.Placed.{Placed}
 use Rattle.aso_token.specs.declared.front.Span.{Span}
 use Rattle.aso_token.specs.declared.front.Front.{Front}
 

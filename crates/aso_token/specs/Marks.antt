@@ -1,8 +1,8 @@
 -- Tokens that several grammars test for.
 use Rattle.std.specs.Prelude.{ℕ, List, Option, Some, None}
 use Rattle.aso_token.specs.declared.token.Token.{Token}
-use Rattle.aso_token.specs.declared.token.Token.TheVariants.{Word, Number, Quoted, Name, Mark}
-use Rattle.aso_token.specs.declared.token.Mark.TheVariants.{Dot, Comma, Open, Close, OpenSet, CloseSet, Plus, Minus, Star, Slash, Equals}
+use Rattle.aso_token.specs.declared.token.Token.TheVariants.{Name, Mark}
+use Rattle.aso_token.specs.declared.token.Mark.TheVariants.{Comma, Open, Close}
 
 abbrev pub comma : Token → Option (Unit {0})
 comma (Mark Comma) = Some tt

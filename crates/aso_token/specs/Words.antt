@@ -1,10 +1,10 @@
 -- What the tokens of queries and statements stand for.
-use Rattle.std.specs.Prelude.{◌≡◌, ℕ, Bool, true, false, List, length, Option, Some, None, if◌then◌else◌, ◌==◌, nat_le, ◌&&◌}
+use Rattle.std.specs.Prelude.{ℕ, Bool, false, List, length, Option, Some, None, if◌then◌else◌, ◌==◌, nat_le, ◌&&◌}
 use Rattle.std.specs.Str.{str_eq_ignore_ascii_case}
 use Rattle.aso_num.specs.AmountText.{number, digits_len}
 use Rattle.aso_token.specs.declared.token.Token.{Token}
 use Rattle.aso_token.specs.declared.token.Token.TheVariants.{Word, Number, Name, Mark}
-use Rattle.aso_token.specs.declared.token.Mark.TheVariants.{Dot, Comma, Open, Close, OpenSet, CloseSet, Plus, Minus, Star, Slash, Equals}
+use Rattle.aso_token.specs.declared.token.Mark.TheVariants.{Dot, OpenSet, CloseSet, Equals}
 
 abbrev pub known : {A : Type 0} → Bool → A → Option A
 known b a = if b then Some a else None

@@ -4,7 +4,8 @@ use Rattle.std.proofs.lemmas.Result.{err_from_is_err_and}
 use Rattle.aso_token.specs.declared.token.Token.TheVariants.{Mark}
 use Rattle.aso_token.specs.declared.token.Mark.TheVariants.{Star, Plus}
 use Rattle.aso_token.specs.Reads.{tokens_of, read_one, onward}
-use Rattle.aso_token.proofs.Laws.{onward_start, onward_fail, onward_front, front_less, gives_same, fails_on}
+use Rattle.aso_token.proofs.Laws.{gives_same, fails_on}
+use Rattle.aso_token.proofs.Lists.{onward_start, onward_fail, onward_front, front_less}
 use Rattle.aso_formula.specs.Formula.{sum_mark, product_mark, operated, from_left, Term, Factor}
 use Rattle.aso_formula.specs.Formula.{atom}
 use Rattle.aso_formula.specs.Reading.{read_term, read_sum, read_factor, read_inside, read_negated, read_closed, read_rest}

@@ -3,7 +3,8 @@ use Rattle.aso_token.specs.declared.token.Token.TheVariants.{Mark}
 use Rattle.aso_token.specs.declared.token.Mark.TheVariants.{Comma}
 use Rattle.aso_token.specs.Lang.{One}
 use Rattle.aso_token.specs.Reads.{tokens_of, read_one, onward}
-use Rattle.aso_token.proofs.Laws.{one_law, onward_front, fails_on}
+use Rattle.aso_token.proofs.Laws.{one_law, fails_on}
+use Rattle.aso_token.proofs.Lists.{onward_front}
 use Rattle.aso_token.specs.Marks.{comma, name}
 use Rattle.aso_formula.specs.Reading.{grown, read_behind}
 use Rattle.aso_formula.proofs.Laws.{never, some_name, one_name}

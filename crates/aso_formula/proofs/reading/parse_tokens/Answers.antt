@@ -4,7 +4,8 @@ use Rattle.aso_token.specs.declared.stop.Stop.{Stop}
 use Rattle.aso_token.specs.declared.stop.Stop.TheVariants.{NoMemory, At}
 use Rattle.aso_token.specs.Lang.{Lang}
 use Rattle.aso_token.specs.Reads.{tokens_of, finished, Answers, FaultIn, Read}
-use Rattle.aso_token.proofs.Laws.{Law, text_found, text_only, text_fault}
+use Rattle.aso_token.proofs.Laws.{Law}
+use Rattle.aso_token.proofs.Wholes.{text_found, text_only, text_fault}
 use Rattle.aso_formula.specs.Formula.{Formula}
 use Rattle.aso_formula.specs.Reading.{read_sum, read_factor}
 use Rattle.aso_formula.proofs.Laws.{sum_goes, formula_law}

@@ -2,7 +2,8 @@ use Rattle.std.proofs.Common.{◌-◌, ◌∙◌, ap, sym, List, [], ◌++◌, �
 use Rattle.std.proofs.lemmas.List.{length-map}
 use Rattle.aso_token.specs.Reads.{tokens_of, onward}
 use Rattle.aso_token.specs.Marks.{comma}
-use Rattle.aso_token.proofs.Laws.{onward_start, onward_front, front_less, gives_same}
+use Rattle.aso_token.proofs.Laws.{gives_same}
+use Rattle.aso_token.proofs.Lists.{onward_start, onward_front, front_less}
 use Rattle.aso_mdx.specs.declared.query.SetText.{SetText}
 use Rattle.aso_mdx.specs.Grammar.{Set, all_of}
 use Rattle.aso_mdx.specs.Reading.{read_leaf, read_nested, read_braces_rest, read_crossing_rest, grown}

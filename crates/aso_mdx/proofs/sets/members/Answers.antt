@@ -2,7 +2,7 @@ use Rattle.std.proofs.Common.{◌∙◌, ap, sym, List, [], ◌++◌, ◌∷◌,
 use Rattle.std.proofs.lemmas.List.{length-map}
 use Rattle.aso_token.specs.Reads.{tokens_of, onward}
 use Rattle.aso_token.specs.Marks.{comma}
-use Rattle.aso_token.proofs.Laws.{onward_start, onward_front, front_less}
+use Rattle.aso_token.proofs.Lists.{onward_start, onward_front, front_less}
 use Rattle.aso_mdx.specs.Grammar.{Name, Path, all_of}
 use Rattle.aso_mdx.specs.Reading.{read_path, grown}
 use Rattle.aso_mdx.proofs.Laws.{path_law, path_goes, comma_path, comma_token, some_path}

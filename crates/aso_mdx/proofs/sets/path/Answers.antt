@@ -2,7 +2,9 @@ use Rattle.std.proofs.Common.{◌∙◌, ap, sym, refl, List, [], ◌∷◌, ◌
 use Rattle.std.proofs.lemmas.Result.{err_from_is_err_and}
 use Rattle.aso_token.specs.Lang.{One}
 use Rattle.aso_token.specs.Reads.{tokens_of, read_one, onward}
-use Rattle.aso_token.proofs.Laws.{Never, one_law, onward_front, fails_on}
+use Rattle.aso_token.proofs.Laws.{one_law, fails_on}
+use Rattle.aso_token.proofs.Sequences.{Never}
+use Rattle.aso_token.proofs.Lists.{onward_front}
 use Rattle.aso_token.specs.Words.{dot, part}
 use Rattle.aso_mdx.specs.Grammar.{Name, later_part}
 use Rattle.aso_mdx.specs.Reading.{read_path, grown}

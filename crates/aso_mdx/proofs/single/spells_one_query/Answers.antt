@@ -1,7 +1,7 @@
 use Rattle.std.proofs.Common.{true}
 use Rattle.aso_token.specs.Reads.{tokens_of}
 use Rattle.aso_token.specs.Cutting.{cut}
-use Rattle.aso_token.proofs.Laws.{text_one}
+use Rattle.aso_token.proofs.Wholes.{text_one}
 use Rattle.aso_mdx.specs.Grammar.{QueryTokens}
 use Rattle.aso_mdx.specs.Reading.{read_query}
 use Rattle.aso_mdx.proofs.QueryLaws.{query_goes, query_law}

@@ -1,4 +1,3 @@
-use Rattle.std.proofs.Common.{arith}
 use Rattle.aso_token.proofs.Spans.{name_end}
 use Rattle.aso_token.proofs.front.name_span.Goals as goal
 

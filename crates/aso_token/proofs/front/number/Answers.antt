@@ -1,4 +1,3 @@
-use Rattle.std.proofs.Common.{arith}
 use Rattle.aso_token.proofs.Spans.{number_at}
 use Rattle.aso_token.proofs.front.number.Goals as goal
 
