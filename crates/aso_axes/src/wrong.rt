@@ -161,7 +161,7 @@ fn is_short(dims: &[DimRef], wanted: &[DimRef]) -> bool
 
 /// Each member of a tuple stands behind the dimensions of those before it, which are few: a dimension that comes again is wrong.
 #[tactic(auto, using(crate::proofs::WrongLemmas::some_first, crate::proofs::WrongLemmas::none_first, crate::proofs::WrongLemmas::some_mapped))]
-fn wrong_tuple<'a>(
+pub fn wrong_tuple<'a>(
     alloc: Global,
     outline: &'a Outline,
     own: &'a [ExtraMember],
