@@ -1,5 +1,5 @@
 -- The children of a node, one after the other.
-use Rattle.std.specs.Prelude.{nat_lt, slice_index}
+use Rattle.std.specs.Prelude.{nat_lt, if◌then◌else◌, slice_index}
 use Rattle.std.specs.Option.{option_map}
 use Rattle.std.specs.List.{filter, position, range_with_len}
 use Rattle.std.proofs.Common.{◌≡◌, ◌∙◌, ℕ, zero, suc, ◌+◌, ◌-◌, ◌<◌, ◌≤◌, Bool, true, false, ◌&&◌, eqb, List, [], ◌∷◌, ◌++◌, get_or, length, map, Option, Some, None, refl, sym, ap, subst, arith, append-nil, append_assoc, eq-eqb, true≢false}
@@ -49,7 +49,7 @@ module _ {X : Type 0} (p : X → Bool) (d : X) where
       each (suc k) low = rest is k (omega (arith, low))
 
   pub lacks : (xs : List X) → position p xs ≡ None → Lacks xs
-  lacks [] is k low = absurd (omega (arith, low))
+  lacks [] is = λ k low. absurd (omega (arith, low))
   lacks (x ∷ xs) is = lacks_by x xs (lacks xs) (p x) refl (position p xs) refl (sym (position_cons p x xs) ∙ is)
 
 and_front : (a b : Bool) → (a && b) ≡ true → a ≡ true
@@ -145,3 +145,10 @@ module _ (parents : List ℕ) (node first : ℕ) where
           ),
           omega (arith, after, within),
         )
+
+  -- one child more
+  pub one_more : (before numbers new : List ℕ) (o : Option ℕ) (child : ℕ) → o ≡ Some child → Walks before numbers o → new ≡ numbers ++ (first + child) ∷ [] → (next : Option ℕ) → next ≡ next_child parents child → Walks before new next × (left next < left o)
+  one_more before numbers new o child is walks more next at =
+      let here = subst (Walks before numbers) is walks in
+      let on = goes_on child here.0 here.1 before numbers new here.2 more next at in
+      (on.0, subst (λ (z : Option ℕ). left next < left z) (sym is) on.1)

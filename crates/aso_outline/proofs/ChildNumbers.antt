@@ -1,7 +1,7 @@
 -- The children of a member are members.
 use Rattle.std.specs.Prelude.{slice_get, slice_index, if◌then◌else◌, unwrap_or, ◌==◌}
 use Rattle.std.specs.List.{filter, range_with_len}
-use Rattle.std.proofs.Common.{◌≡◌, ◌∙◌, ℕ, zero, suc, ◌+◌, ◌-◌, ◌<◌, ◌≤◌, ◌^◌, get_or, Bool, true, false, List, ◌∷◌, map, length, Option, Some, None, refl, sym, ap, arith}
+use Rattle.std.proofs.Common.{◌≡◌, ◌∙◌, ℕ, zero, suc, ◌+◌, ◌-◌, ◌<◌, ◌≤◌, ◌^◌, get_or, Bool, true, false, List, ◌∷◌, map, length, Option, Some, None, refl, ap, arith}
 use Rattle.aso_tree.specs.Trees.{places_of}
 use Rattle.std.proofs.lemmas.Option.{none-some, same_Some, slice_get-get_or, slice_get_within}
 use Rattle.aso_outline.specs.declared.draft.Draft.{Draft}

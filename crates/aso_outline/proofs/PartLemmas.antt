@@ -1,7 +1,7 @@
 -- Where members stand in parts in order, what a member leads to is in no later part; and a way back shows a circle.
 use Rattle.std.specs.Prelude.{nat_le, nat_lt}
 use Rattle.std.specs.List.{list_all, list_any}
-use Rattle.std.proofs.Common.{◌≡◌, ◌∙◌, ℕ, zero, suc, ◌+◌, ◌<◌, ◌≤◌, ◌⊎◌, ⊎_elim, ◌&&◌, ◌||◌, eqb, Bool, true, false, List, [], ◌∷◌, length, refl, sym, ap, arith, true≢false, eq-eqb}
+use Rattle.std.proofs.Common.{◌≡◌, ◌∙◌, ℕ, zero, suc, ◌<◌, ◌≤◌, ⊎_elim, ◌||◌, eqb, Bool, true, false, List, [], ◌∷◌, length, refl, sym, ap, arith, true≢false, eq-eqb}
 use Rattle.std.proofs.lemmas.Bool.{and_parts, eqb-true, leb-true, ltb-true, or_cases}
 use Rattle.aso_outline.specs.declared.draft.Draft.{Draft}
 use Rattle.aso_outline.specs.Members.{seats}

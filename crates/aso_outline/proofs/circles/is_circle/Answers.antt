@@ -1,4 +1,4 @@
-use Rattle.std.proofs.Common.{◌≡◌, ◌∙◌, true, sym}
+use Rattle.std.proofs.Common.{◌∙◌, sym}
 use Rattle.aso_outline.proofs.PartLemmas.{circle, leads_on, starts}
 use Rattle.aso_outline.proofs.circles.is_circle.Goals as goal
 

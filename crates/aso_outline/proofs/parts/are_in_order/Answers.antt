@@ -1,5 +1,4 @@
 use Rattle.std.proofs.Common.{◌∙◌, sym, arith}
-use Rattle.aso_tree.proofs.Ends.{either}
 use Rattle.aso_outline.proofs.EachPlace.{passes_more}
 use Rattle.aso_outline.proofs.GraphRows.{rows_long}
 use Rattle.aso_outline.proofs.PartLemmas.{all_in_order}

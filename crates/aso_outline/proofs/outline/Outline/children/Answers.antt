@@ -1,5 +1,3 @@
-use Rattle.std.proofs.Common.{◌∙◌, ap, Some}
-use Rattle.aso_outline.specs.declared.seat.Seat.{Seat}
 use Rattle.aso_outline.specs.Numbers.{seat_of}
 use Rattle.aso_outline.proofs.ChildNumbers.{child_there, seat_there}
 use Rattle.aso_outline.proofs.outline.Outline.children.Goals as goal
