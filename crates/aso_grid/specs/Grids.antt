@@ -24,12 +24,19 @@ is_row_filled p values row = list_any (λ column. is_there (value_at p values ro
 abbrev pub is_column_filled : GridPlan → List Val → ℕ → Bool
 is_column_filled p values column = list_any (λ row. is_there (value_at p values row column)) (places_of p.rows.rows)
 
--- the places of the rows that are printed
+-- a row is printed, or a column
+abbrev pub is_row_kept : GridPlan → List Val → ℕ → Bool
+is_row_kept p values row = p.empty_rows || is_row_filled p values row
+
+abbrev pub is_column_kept : GridPlan → List Val → ℕ → Bool
+is_column_kept p values column = p.empty_columns || is_column_filled p values column
+
+-- their places
 abbrev pub kept_rows : GridPlan → List Val → List ℕ
-kept_rows p values = filter (λ row. p.empty_rows || is_row_filled p values row) (places_of p.rows.rows)
+kept_rows p values = filter (is_row_kept p values) (places_of p.rows.rows)
 
 abbrev pub kept_columns : GridPlan → List Val → List ℕ
-kept_columns p values = filter (λ column. p.empty_columns || is_column_filled p values column) (places_of p.columns.rows)
+kept_columns p values = filter (is_column_kept p values) (places_of p.columns.rows)
 
 -- a tuple with its place
 abbrev pub Placed : Type 0

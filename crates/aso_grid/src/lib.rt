@@ -16,7 +16,6 @@ pub use grid_plan::GridPlan;
 pub use planning::plan;
 pub use printing::grid;
 
-
 #[cfg(test)]
 mod test_outline;
 #[cfg(test)]

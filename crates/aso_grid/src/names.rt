@@ -7,7 +7,9 @@ ghost use Rattle.aso_axes.specs.Members.{IsNumbered};
 ghost use Rattle.aso_axes.specs.Sets.{paths_of, said_of};
 ghost use Rattle.aso_grid.specs.Plans.{said_of_rows, set_of_rows, unknown_in, wrong_in};
 
-use aso_axes::{Purpose, first_unknown, push_paths, push_tuple, said_of_set, wrong_in, wrong_tuple};
+use aso_axes::{
+    Purpose, first_unknown, push_paths, push_tuple, said_of_set, wrong_in, wrong_tuple,
+};
 use aso_mdx::Query;
 use aso_memory::NoMemory;
 use aso_num::Text;

@@ -35,18 +35,13 @@ fn base_place(outline: &Outline, dims: &[DimRef], dim: u32) -> Place
     ensures { result ≡ base_place_of outline.now dims.now dim }
 {
     outline.keeps_numbers();
-    let dim = DimRef::Base(dim);
     Place {
-        named: place_in(dims, dim),
-        own: outline.root(dim),
+        named: place_in(dims, DimRef::Base(dim)),
+        own: outline.root(DimRef::Base(dim)),
     }
 }
 
-fn base_places(
-    alloc: Global,
-    outline: &Outline,
-    dims: &[DimRef],
-) -> Result<Vec<Place>, NoMemory>
+fn base_places(alloc: Global, outline: &Outline, dims: &[DimRef]) -> Result<Vec<Place>, NoMemory>
     ensures { IfOk result (λ v. v.items ≡ base_places_of outline.now dims.now) }
 {
     let mut places = Vec::new(alloc);

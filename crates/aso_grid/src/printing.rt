@@ -12,7 +12,7 @@ use aso_outline::{Extra, ExtraMember, Outline};
 use std::alloc::Global;
 
 /// The lines of the rows and the columns at these places.
-fn lines(
+fn lines_of(
     alloc: Global,
     outline: &Outline,
     own: &[ExtraMember],
@@ -34,25 +34,25 @@ fn lines(
 
 /// Appends the lines of a planned grid over the values of its cells, in the order of the cells: an empty field and the labels of
 /// the columns, and for each row its label and its values, in fields with a tab between. It answers how many rows and columns are
-/// printed. Where no memory is left, `out` stays as it was. It takes time in proportion to the cells and to the text.
+/// printed. Where no memory is left, `text` stays as it was. It takes time in proportion to the cells and to the text.
 pub fn grid(
     alloc: Global,
     outline: &Outline,
     extra: &Extra,
     plan: &GridPlan,
     values: &[Val],
-    out: &mut Vec<u8>,
+    text: &mut Vec<u8>,
 ) -> Result<(u32, u32), NoMemory>
     requires sized { IsSized plan.now }
     requires each { length values.now ≡ length plan.now.cells }
-    ensures lines { OnOk result (out.new.items ≡ out.old.items ++ grid_lines outline.now extra.now.members.items plan.now values.now) }
+    ensures lines { OnOk result (text.new.items ≡ text.old.items ++ grid_lines outline.now extra.now.members.items plan.now values.now) }
     ensures printed { IfOk result (λ size. size ≡ (length (kept_rows_of plan.now values.now), length (kept_columns_of plan.now values.now))) }
-    ensures unchanged { OnErr result (out.new.items ≡ out.old.items) }
+    ensures unchanged { OnErr result (text.new.items ≡ text.old.items) }
 {
     let own = extra.members.as_slice();
     let rows = kept_rows(alloc, plan, values)?;
     let columns = kept_columns(alloc, plan, values)?;
-    let text = lines(alloc, outline, own, plan, values, &rows, &columns)?;
-    out.extend_from_slice(&text)?;
+    let lines = lines_of(alloc, outline, own, plan, values, &rows, &columns)?;
+    text.extend_from_slice(&lines)?;
     Ok((rows.len() as u32, columns.len() as u32))
 }

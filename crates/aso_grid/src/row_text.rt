@@ -1,6 +1,6 @@
 // The lines of a grid.
 ghost use Rattle.std.specs.Prelude.{◌≡◌, ◌<◌, ◌++◌, ◌∷◌, [], length, map, OnOk};
-ghost use Rattle.std.specs.List.{AllByRecursion, flat_map};
+ghost use Rattle.std.specs.List.{All, flat_map};
 ghost use Rattle.std.specs.String.{string_bytes};
 ghost use Rattle.aso_num.specs.Numbers.{value_text};
 ghost use Rattle.aso_spec.specs.Grid.{tabbed};
@@ -52,7 +52,7 @@ fn put_values(
 ) -> Result<(), NoMemory>
     requires sized { IsSized plan.now }
     requires row { row < length plan.now.rows.rows }
-    requires kept { AllByRecursion (IsBelow (length plan.now.columns.rows)) kept.now }
+    requires kept { All (IsBelow (length plan.now.columns.rows)) kept.now }
     ensures { OnOk result (string_bytes line.new ≡ string_bytes line.old ++ values_text plan.now values.now row kept.now) }
 {
     for column in kept {
@@ -74,7 +74,7 @@ fn put_row(
 ) -> Result<(), NoMemory>
     requires sized { IsSized plan.now }
     requires row { row < length plan.now.rows.rows }
-    requires kept { AllByRecursion (IsBelow (length plan.now.columns.rows)) kept.now }
+    requires kept { All (IsBelow (length plan.now.columns.rows)) kept.now }
     ensures { OnOk result (out.new.items ≡ out.old.items ++ row_line outline.now own.now plan.now values.now kept.now row) }
 {
     put_label(out, outline, own, plan.rows.rows.items(), row)?;
@@ -97,8 +97,8 @@ pub fn put_rows(
     columns: &[usize],
 ) -> Result<(), NoMemory>
     requires sized { IsSized plan.now }
-    requires rows { AllByRecursion (IsBelow (length plan.now.rows.rows)) rows.now }
-    requires columns { AllByRecursion (IsBelow (length plan.now.columns.rows)) columns.now }
+    requires rows { All (IsBelow (length plan.now.rows.rows)) rows.now }
+    requires columns { All (IsBelow (length plan.now.columns.rows)) columns.now }
     ensures { OnOk result (out.new.items ≡ out.old.items ++ flat_map (row_line outline.now own.now plan.now values.now columns.now) rows.now) }
 {
     for row in rows {

@@ -48,12 +48,7 @@ fn put_cell(
 }
 
 // The cells, each with a space before it; or what is answered in place of a plan.
-fn cells_told(
-    alloc: Global,
-    outline: &Outline,
-    extra: &Extra,
-    text: &str,
-) -> Result<String, Fail> {
+fn cells_told(alloc: Global, outline: &Outline, extra: &Extra, text: &str) -> Result<String, Fail> {
     let mut out = String::new(alloc);
     let query = query(alloc, text)?;
     match plan(alloc, outline, extra, &query) {
@@ -94,7 +89,10 @@ fn cells_of_queries(rt: HostRuntime) -> Result<(), Fail> {
             "select [Jan] on columns, [Big].children on rows from S.B where [Large]",
             " /Jan/NY/Measures+Large /Jan/CA/Measures+Large",
         ),
-        ("select [Jan].children on columns, [NY] on rows from S.B", ""),
+        (
+            "select [Jan].children on columns, [NY] on rows from S.B",
+            "",
+        ),
         (
             "select {[Jan],[NY]} on columns, [Paris] on rows from S.B",
             "unknown Paris",
@@ -125,7 +123,10 @@ fn cells_of_queries(rt: HostRuntime) -> Result<(), Fail> {
         ),
     ];
     for (text, expected) in cases {
-        assert_eq!(rt; cells_told(alloc, &outline, &extra, text)?.as_str(), expected);
+        assert_eq!(rt;
+            cells_told(alloc, &outline, &extra, text)?.as_str(),
+            expected
+        );
     }
     Ok(())
 }
@@ -212,7 +213,11 @@ fn grid_told(
     let mut told = String::new(alloc);
     write!(told, "{rows} {columns}:")?;
     for byte in &out {
-        told.push(if *byte == b'\t' { '|' } else { char::from(*byte) })?;
+        told.push(if *byte == b'\t' {
+            '|'
+        } else {
+            char::from(*byte)
+        })?;
     }
     Ok(told)
 }
@@ -222,7 +227,8 @@ fn grids_of_queries(rt: HostRuntime) -> Result<(), Fail> {
     let alloc = rt.alloc();
     let outline = basic(alloc)?;
     let extra = own(alloc, &outline)?;
-    let both = "select non empty {[Jan],[Feb],[Year]} on columns, non empty {[NY],[CA]} on rows from S.B";
+    let both =
+        "select non empty {[Jan],[Feb],[Year]} on columns, non empty {[NY],[CA]} on rows from S.B";
     let rows = "select {[Jan],[Feb],[Year]} on columns, non empty {[NY],[CA]} on rows from S.B";
     let columns = "select non empty {[Jan],[Feb],[Year]} on columns, {[NY],[CA]} on rows from S.B";
     let cases = [
@@ -242,9 +248,17 @@ fn grids_of_queries(rt: HostRuntime) -> Result<(), Fail> {
             "1 2:|Feb, Large|Feb, Small\nCA, Pct|#Missing|1.0000\n",
         ),
         (both, "x.....", "1 1:|Jan\nNY|0.0000\n"),
-        (both, "x....x", "2 2:|Jan|Year\nNY|0.0000|#Missing\nCA|#Missing|5.0000\n"),
+        (
+            both,
+            "x....x",
+            "2 2:|Jan|Year\nNY|0.0000|#Missing\nCA|#Missing|5.0000\n",
+        ),
         (both, ".", "0 0:\n"),
-        (rows, "....x.", "1 3:|Jan|Feb|Year\nCA|#Missing|4.0000|#Missing\n"),
+        (
+            rows,
+            "....x.",
+            "1 3:|Jan|Feb|Year\nCA|#Missing|4.0000|#Missing\n",
+        ),
         (rows, ".", "0 3:|Jan|Feb|Year\n"),
         (columns, "....x.", "2 1:|Feb\nNY|#Missing\nCA|4.0000\n"),
         (columns, ".", "2 0:\nNY\nCA\n"),
@@ -253,7 +267,11 @@ fn grids_of_queries(rt: HostRuntime) -> Result<(), Fail> {
             "x",
             "0 0:\n",
         ),
-        ("select [Jan].children on columns, [NY] on rows from S.B", "x", "1 0:\nNY\n"),
+        (
+            "select [Jan].children on columns, [NY] on rows from S.B",
+            "x",
+            "1 0:\nNY\n",
+        ),
         (
             "select non empty {[Jan],[Feb]} on columns, [X].children on rows from S.B",
             "x",
@@ -261,7 +279,10 @@ fn grids_of_queries(rt: HostRuntime) -> Result<(), Fail> {
         ),
     ];
     for (text, pattern, expected) in cases {
-        assert_eq!(rt; grid_told(alloc, &outline, &extra, text, pattern)?.as_str(), expected);
+        assert_eq!(rt;
+            grid_told(alloc, &outline, &extra, text, pattern)?.as_str(),
+            expected
+        );
     }
     Ok(())
 }
