@@ -1,9 +1,8 @@
 -- The lines by the places of the rows and columns are those of the grid.
-use Rattle.std.specs.Prelude.{◌||◌}
 use Rattle.std.specs.List.{All, filter, flat_map, range_with_len}
-use Rattle.std.proofs.Common.{◌≡◌, ◌∙◌, ℕ, zero, suc, ◌+◌, ◌<◌, ◌≤◌, Bool, not, List, [], ◌∷◌, ◌++◌, length, map, refl, sym, ap, arith}
+use Rattle.std.proofs.Common.{◌≡◌, ◌∙◌, ℕ, ◌≤◌, Bool, not, List, [], ◌∷◌, ◌++◌, length, map, refl, sym, ap, arith}
 use Rattle.std.proofs.lemmas.List.Elements.{All-filter}
-use Rattle.std.proofs.lemmas.List.FromFn.{length-range_with_len}
+use Rattle.std.proofs.lemmas.List.FromFn.{get_or-range_with_len, length-range_with_len}
 use Rattle.std.proofs.lemmas.List.Filters.{length-filter_both}
 use Rattle.std.proofs.lemmas.List.Folds.{flat_map-map}
 use Rattle.aso_num.specs.Numbers.{value_text}
@@ -31,7 +30,7 @@ module _ (o : Draft) (own : Own) (p : GridPlan) (values : List Val) (columns : L
   line_is : (row : ℕ) → line_of (placed p.rows.rows row) ≡ row_line o own p values columns row
   unfolding line_of
   line_is row =
-      ap (λ (text : List ℕ). label_of o own (placed p.rows.rows row) ++ (text ++ 10 ∷ []))
+      ap (λ (text : List ℕ). label_of o own (placed p.rows.rows row) ++ text ++ 10 ∷ [])
       (tabs (λ (column : Placed). value_text (value_of p values (placed p.rows.rows row) column)) (placed p.columns.rows) columns)
 
   pub lines_are : (rows : List ℕ) → grid_text (label_of o own) (value_of p values) (map (placed p.columns.rows) columns) (map (placed p.rows.rows) rows)
@@ -54,12 +53,13 @@ module _ (o : Draft) (own : Own) (p : GridPlan) (values : List Val) (columns : L
 
 -- ---- places
 
-below_from : (a n end : ℕ) → a + n ≤ end → All (IsBelow end) (range_with_len a n)
-below_from a zero end le = tt
-below_from a (suc n) end le = (omega (arith, le), below_from (a + 1) n end (omega (arith, le)))
+below : (n : ℕ) → All (IsBelow n) (range_with_len 0 n)
+below n = λ k d low.
+    let long = length-range_with_len 0 n in
+    omega (arith, get_or-range_with_len 0 n k d (omega (arith, low, long)), low, long)
 
 pub are_below : {X : Type 0} (p : ℕ → Bool) (xs : List X) → All (IsBelow (length xs)) (filter p (places_of xs))
-are_below p xs = All-filter p (IsBelow (length xs)) (places_of xs) (below_from 0 (length xs) (length xs) (omega arith))
+are_below p xs = All-filter p (IsBelow (length xs)) (places_of xs) (below (length xs))
 
 pub few_kept : {X : Type 0} (p : ℕ → Bool) (xs : List X) → length (filter p (places_of xs)) ≤ length xs
 few_kept p xs = omega (arith, length-filter_both p (λ x. not (p x)) (λ x. refl) (places_of xs), length-range_with_len 0 (length xs))

@@ -1,9 +1,10 @@
 -- The cells of a plan, by the places of their dimensions.
 use Rattle.std.specs.Prelude.{slice_get}
-use Rattle.std.specs.List.{flat_map}
-use Rattle.std.proofs.Common.{◌≡◌, ◌∙◌, ℕ, zero, suc, ◌-◌, ◌*◌, ◌<◌, ◌≤◌, List, [], ◌∷◌, ◌++◌, length, map, Option, None, refl, sym, ap, arith, length-append, zero-mul, suc-mul}
+use Rattle.std.specs.List.{AllByRecursion, flat_map}
+use Rattle.std.proofs.Common.{◌≡◌, ◌∙◌, ℕ, zero, suc, ◌-◌, ◌*◌, ◌<◌, ◌≤◌, List, [], ◌∷◌, ◌++◌, length, map, Option, Some, None, refl, subst, sym, ap, arith, length-append, zero-mul, suc-mul}
 use Rattle.std.proofs.Math.Nat.{mul-le-mul}
 use Rattle.std.proofs.lemmas.List.{length-map}
+use Rattle.std.proofs.lemmas.List.FromFn.{length-range_with_len}
 use Rattle.aso_outline.specs.declared.draft.Draft.{Draft}
 use Rattle.aso_outline.specs.declared.draft.Tuple.{Tuple}
 use Rattle.aso_outline.specs.declared.seat.DimRef.{DimRef}
@@ -11,7 +12,7 @@ use Rattle.aso_tree.specs.Trees.{places_of}
 use Rattle.aso_mdx.specs.declared.query.Query.{Query}
 use Rattle.aso_axes.specs.Members.{Own}
 use Rattle.aso_grid.specs.Places.{attr_place_of, attr_places_of, base_place_of, base_places_of, member_if, member_of, tuple_in, tuples_of_row}
-use Rattle.aso_grid.specs.Plans.{IsSized, base_at, cells_of, cells_of_row, columns_of, coordinates, excess_in, plan_of, rows_of}
+use Rattle.aso_grid.specs.Plans.{AreLong, IsSized, base_at, cells_of, cells_of_row, columns_of, coordinates, excess_in, plan_of, rows_of}
 use Rattle.aso_grid.proofs.SizeLemmas.{few_columns, few_rows}
 
 pub map-map : {X Y Z : Type 0} (g : Y → Z) (f : X → Y) (xs : List X) → map g (map f xs) ≡ map (λ x. g (f x)) xs
@@ -57,6 +58,35 @@ sized o own q none =
       few_rows = few_rows (length columns) (length rows) none;
       cells = long_cells o _ columns rows _;
     }
+
+-- ---- each cell has one member for each base dimension
+
+IsLong : Draft → Tuple → Type 0
+IsLong o t = length t.base ≡ length o.dims
+
+at_place : {X : Type 0} (P : X → Type 0) (xs : List X) → AllByRecursion P xs → (k : ℕ) (x : X) → slice_get xs k ≡ Some x → P x
+at_place P [] all k x is = cc
+at_place P (y ∷ xs) all zero x is = subst P (cc) all.0
+at_place P (y ∷ xs) all (suc k) x is = at_place P xs all.1 k x is
+
+joined : {X : Type 0} (P : X → Type 0) (xs ys : List X) → AllByRecursion P xs → AllByRecursion P ys → AllByRecursion P (xs ++ ys)
+joined P [] ys left right = right
+joined P (x ∷ xs) ys left right = (left.0, joined P xs ys left.1 right)
+
+module _ (o : Draft) (dims : List DimRef) (columns : List (List ℕ)) (slicer : List ℕ) where
+  row_long : (row : List ℕ) (cs : List (List ℕ)) → AllByRecursion (IsLong o) (map (λ column. coordinates o dims (column ++ (row ++ slicer))) cs)
+  unfolding IsLong
+  row_long row [] = tt
+  row_long row (c ∷ cs) =
+      (length-map (places_of o.dims) (base_at o dims (c ++ (row ++ slicer))) ∙ length-range_with_len 0 (length o.dims), row_long row cs)
+
+  all_long : (rows : List (List ℕ)) → AllByRecursion (IsLong o) (cells_of o dims columns rows slicer)
+  all_long [] = tt
+  all_long (row ∷ rows) = joined (IsLong o) (cells_of_row o dims columns slicer row) (cells_of o dims columns rows slicer) (row_long row columns) (all_long rows)
+
+pub long : (o : Draft) (own : Own) (q : Query) → AreLong o (plan_of o own q).cells
+unfolding IsLong
+long o own q = at_place (IsLong o) (plan_of o own q).cells (all_long o _ (columns_of o own q).rows _ (rows_of o own q).rows)
 
 -- ---- places in a joined list
 

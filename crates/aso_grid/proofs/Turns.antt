@@ -1,7 +1,8 @@
 -- A loop over a range that has come one number further.
-use Rattle.std.specs.List.{All, filter, list_any, range_with_len}
-use Rattle.std.proofs.Common.{◌≡◌, ◌∙◌, ℕ, zero, suc, ◌+◌, ◌-◌, ◌<◌, ◌≤◌, Bool, true, false, cond, ◌||◌, List, [], ◌∷◌, ◌++◌, refl, sym, ap, arith}
-use Rattle.aso_tree.proofs.Paths.{filter_range_push}
+use Rattle.std.specs.List.{filter, list_any, range_with_len}
+use Rattle.std.proofs.Common.{◌≡◌, ◌∙◌, ℕ, suc, ◌+◌, ◌-◌, ◌<◌, ◌≤◌, Bool, true, false, cond, ◌||◌, List, [], ◌∷◌, ◌++◌, map, sym, ap, add-one, arith}
+use Rattle.std.proofs.lemmas.List.{map-append}
+use Rattle.aso_tree.proofs.Paths.{filter_range_push, range_push}
 
 module _ (f : ℕ → Bool) (i n : ℕ) where
   here : i < n → list_any f (range_with_len i (n - i)) ≡ (f i || list_any f (range_with_len (i + 1) (n - (i + 1))))
@@ -25,3 +26,10 @@ pub kept_put : (p : ℕ → Bool) (n : ℕ) (b : Bool) (old new : List ℕ) → 
 kept_put p n b old new before put is =
     put ∙ (ap (λ (xs : List ℕ). xs ++ cond b (n ∷ []) []) before
     ∙ (ap (λ (k : Bool). filter p (range_with_len 0 n) ++ cond k (n ∷ []) []) is ∙ sym (filter_range_push p n)))
+
+-- what was made of each number, and what is made of the next
+pub mapped_put : {X : Type 0} (f : ℕ → X) (n : ℕ) (old new : List X) (x : X) → old ≡ map f (range_with_len 0 n) → new ≡ old ++ x ∷ [] → x ≡ f n → new ≡ map f (range_with_len 0 (n + 1))
+mapped_put f n old new x before put is =
+    put ∙ (ap (λ (xs : List _). xs ++ x ∷ []) before
+    ∙ (ap (λ (y : _). map f (range_with_len 0 n) ++ y ∷ []) is
+    ∙ sym (rw add-one (ap (map f) (range_push 0 n n (omega arith)) ∙ map-append f (range_with_len 0 n) (n ∷ [])))))

@@ -122,6 +122,10 @@ pub record IsSized (p : GridPlan) : Type 0 where
   pub few_rows : length p.rows.rows ≤ 100000
   pub cells : length p.cells ≡ length p.rows.rows * length p.columns.rows
 
+-- each cell has one member for each base dimension
+abbrev pub AreLong : Draft → List Tuple → Type 0
+AreLong o cells = (k : ℕ) (t : Tuple) → slice_get cells k ≡ Some t → length t.base ≡ length o.dims
+
 -- each name is that of a member
 abbrev pub IsKnown : Draft → Own → Query → Type 0
 IsKnown o own q = unknown_in o own q ≡ None

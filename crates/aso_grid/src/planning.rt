@@ -2,7 +2,7 @@
 ghost use Rattle.std.specs.Prelude.{◌≡◌, ◌++◌, map, IfOk, IfErr, OnOk};
 ghost use Rattle.aso_axes.specs.Members.{IsNumbered};
 ghost use Rattle.aso_axes.specs.Sets.{dim_at as dim_named, member_at as member_named};
-ghost use Rattle.aso_grid.specs.Plans.{IsKnown, IsPlaced, IsQueryRefusal, IsSized, IsTaken, cells_over, empty_rows_of, no_axis as lone_axis, plan_of, rows_of};
+ghost use Rattle.aso_grid.specs.Plans.{AreLong, IsKnown, IsPlaced, IsQueryRefusal, IsSized, IsTaken, cells_over, empty_rows_of, no_axis as lone_axis, plan_of, rows_of};
 
 use crate::cells::cells;
 use crate::grid_plan::GridPlan;
@@ -223,6 +223,7 @@ pub fn plan(
 ) -> Result<GridPlan, AxisFault>
     ensures planned { IfOk result (λ p. p ≡ plan_of outline.now extra.now.members.items query.now) }
     ensures sized { IfOk result IsSized }
+    ensures long { IfOk result (λ p. AreLong outline.now p.cells) }
     ensures accepted { OnOk result (IsTaken outline.now extra.now.members.items query.now) }
     ensures refused { IfErr result (IsQueryRefusal outline.now extra.now.members.items query.now) }
 {
