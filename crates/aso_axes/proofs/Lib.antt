@@ -4,3 +4,4 @@ pub mod Examples
 pub mod CountLemmas
 pub mod WrongLemmas
 pub mod RangeSteps
+pub mod StoredRows

@@ -16,3 +16,9 @@ module _ (from n : ℕ) (order : from ≤ n) where
 
   pub filter_range : (p : ℕ → Bool) → filter p (range_with_len from (n + 1 - from)) ≡ filter p (range_with_len from (n - from)) ++ filter p (n ∷ [])
   filter_range p = ap (filter p) more ∙ filter-append p (range_with_len from (n - from)) (n ∷ [])
+
+-- the numbers from 0 on
+pub map_first : {X : Type 0} (f : ℕ → X) (n : ℕ) → map f (range_with_len 0 (n + 1)) ≡ map f (range_with_len 0 n) ++ f n ∷ []
+map_first f n =
+    let e : n + 1 ≡ suc n = omega arith in
+    ap (map f) (ap (range_with_len 0) e ∙ range_push 0 n n (omega arith)) ∙ map-append f (range_with_len 0 n) (n ∷ [])

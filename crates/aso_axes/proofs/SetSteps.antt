@@ -1,7 +1,11 @@
 -- What the definitions over sets give at each kind of set.
+use Rattle.std.specs.Prelude.{is_some}
+use Rattle.std.specs.Option.{option_or}
 use Rattle.std.specs.List.{flat_map}
-use Rattle.std.proofs.Common.{◌≡◌, ◌∙◌, ℕ, List, [], ◌∷◌, ◌++◌, length, map, sym, ap, refl}
+use Rattle.std.proofs.Common.{◌≡◌, ◌∙◌, ◌-◌, ℕ, false, List, [], ◌∷◌, ◌++◌, length, length-append, map, Option, sym, ap, arith, refl}
 use Rattle.aso_outline.specs.declared.draft.Draft.{Draft}
+use Rattle.aso_outline.specs.declared.seat.DimRef.{DimRef}
+use Rattle.aso_outline.specs.Members.{Name}
 use Rattle.aso_mdx.specs.declared.query.SetText.{SetText}
 use Rattle.aso_mdx.specs.declared.query.SetText.TheOpen.{SetText-F}
 use Rattle.aso_mdx.specs.declared.query.SetText.TheFolds.{fold-SetText, fold-roll-SetText}
@@ -9,7 +13,8 @@ use Rattle.aso_mdx.specs.declared.query.SetText.TheVariants.{Braced, Member, Tup
 use Rattle.aso_axes.specs.declared.part.Part.TheVariants as part
 use Rattle.aso_axes.specs.declared.part.Purpose.{Purpose}
 use Rattle.aso_axes.specs.Members.{Own}
-use Rattle.aso_axes.specs.Sets.{Path, Said, paths_of, paths_step, rows_of, rows_step, said_of, said_step, said_of_member, said_of_tuple, said_of_items, said_of_both, given_rows, crossed, member_at}
+use Rattle.aso_axes.specs.Sets.{Path, Said, past, paths_of, paths_step, rows_of, rows_step, said_of, said_step, said_of_member, said_of_tuple, said_of_items, said_of_both, given_rows, crossed, member_at}
+use Rattle.aso_axes.proofs.WrongLemmas.{none_first}
 
 module _ (A : Type 0) (step : SetText-F A → A) where
   fold_braced : (all : List SetText) → fold-SetText A step (Braced all) ≡ step (SetText-F.Braced (map (fold-SetText A step) all))
@@ -143,3 +148,24 @@ module _ (o : Draft) (own : Own) (u : Purpose) where
   pub said_crossjoin : (l r : SetText) → said_of o own u (Crossjoin l r) ≡ said_of_both (said_of o own u l) (said_of o own u r)
   unfolding said_of
   said_crossjoin = fold_crossjoin Said (said_step o own u)
+
+  pub dims_crossjoin : (l r : SetText) → (said_of o own u (Crossjoin l r)).dims ≡ (said_of o own u l).dims ++ (said_of o own u r).dims
+  dims_crossjoin l r = ap (λ (s : Said). s.dims) (said_crossjoin l r)
+
+  -- of a set that is this one, the wrong name is this
+  pub wrong_by : (set same : SetText) (said : Said) → set ≡ same → said_of o own u same ≡ said → (before : List DimRef) (wanted : Option (List DimRef)) → said.wrong before wanted ≡ (said_of o own u set).wrong before wanted
+  wrong_by set same said is steps before wanted = sym (ap (λ (s : SetText). (said_of o own u s).wrong before wanted) is ∙ ap (λ (s : Said). s.wrong before wanted) steps)
+
+  -- where the left set of a crossing has no wrong name, that of the right one
+  pub crossing_later : (l r : SetText) (before : List DimRef) (wanted : Option (List DimRef)) (found : Option Name) (named : List DimRef) (count : ℕ) (rest : Option (List DimRef))
+      → found ≡ (said_of o own u l).wrong before wanted → is_some found ≡ false → named ≡ before ++ (said_of o own u l).dims → rest ≡ past count wanted → count ≡ length named - length before
+      → (said_of o own u r).wrong named rest ≡ (said_of o own u (Crossjoin l r)).wrong before wanted
+  crossing_later l r before wanted found named count rest is none put behind long =
+      let a : Said = said_of o own u l in
+      let b : Said = said_of o own u r in
+      let same : count ≡ length a.dims = omega (arith, long, ap length put, length-append before a.dims) in
+      ap (λ (ds : List DimRef). b.wrong ds rest) put
+      ∙ (ap (λ (w : Option (List DimRef)). b.wrong (before ++ a.dims) w) (behind ∙ ap (λ (n : ℕ). past n wanted) same)
+      ∙ (sym (none_first found (b.wrong (before ++ a.dims) (past (length a.dims) wanted)) none)
+      ∙ (ap (λ (x : Option Name). option_or x (b.wrong (before ++ a.dims) (past (length a.dims) wanted))) is
+      ∙ sym (ap (λ (s : Said). s.wrong before wanted) (said_crossjoin l r)))))

@@ -1,10 +1,11 @@
 // The tuples of a set, or why it has none.
 ghost use Rattle.std.specs.Prelude.{◌≡◌, ◌<◌, ◌≤◌, length, None, Some, true, map, IfOk, IfErr, OnOk};
+ghost use Rattle.std.specs.List.{list_all};
 ghost use Rattle.std.specs.Option.{option_map};
 ghost use Rattle.aso_axes.specs.declared.part.Purpose.{Purpose as Use};
 ghost use Rattle.aso_axes.specs.declared.part.Purpose.TheVariants.{Axis};
 ghost use Rattle.aso_axes.specs.Answers.{IsKnown, IsPlaced, IsSetRefusal, IsTaken, counted, tuples_of};
-ghost use Rattle.aso_axes.specs.Members.{IsNumbered};
+ghost use Rattle.aso_axes.specs.Members.{IsNumbered, may_have};
 ghost use Rattle.aso_axes.specs.Sets.{first_unknown as first_unknown_of, paths_of, rows_of, said_of};
 
 use crate::counts::count_rows;
@@ -111,15 +112,18 @@ fn check_count(
 }
 
 /// The tuples of a set.
-pub fn make_tuples(
+#[tactic(auto, using(crate::proofs::StoredRows::made_may))]
+fn make_tuples(
     alloc: Global,
     outline: &Outline,
     own: &[ExtraMember],
     purpose: Purpose,
     set: &SetText,
 ) -> Result<AxisTuples, NoMemory>
-    requires { IsNumbered outline.now own.now }
-    ensures { IfOk result (λ t. t ≡ tuples_of outline.now own.now purpose set.now) }
+    requires numbered { IsNumbered outline.now own.now }
+    requires placed { IsPlaced outline.now own.now purpose set.now }
+    ensures tuples { IfOk result (λ t. t ≡ tuples_of outline.now own.now purpose set.now) }
+    ensures allowed { IfOk result (λ t. list_all (list_all (may_have outline.now purpose)) t.rows ≡ true) }
 {
     let mut dims = Vec::new(alloc);
     said_of_set(outline, own, purpose, set, &mut dims)?;
@@ -160,6 +164,7 @@ pub fn tuples_for(
     set: &SetText,
 ) -> Result<AxisTuples, AxisFault>
     ensures tuples { IfOk result (λ t. t ≡ tuples_of outline.now extra.now.members.items purpose set.now) }
+    ensures allowed { IfOk result (λ t. list_all (list_all (may_have outline.now purpose)) t.rows ≡ true) }
     ensures accepted { OnOk result (IsTaken outline.now extra.now.members.items purpose set.now) }
     ensures refused { IfErr result (IsSetRefusal outline.now extra.now.members.items purpose set.now) }
 {

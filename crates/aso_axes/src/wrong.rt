@@ -142,14 +142,17 @@ fn wrong_member<'a>(
     first_refused(alloc, outline, own, purpose, part, path)
 }
 
+#[tactic(auto, using(crate::proofs::WrongLemmas::longer))]
 fn is_beginning(dims: &[DimRef], wanted: &[DimRef]) -> bool
     ensures { result ≡ is_beginning_of dims.now wanted.now }
 {
-    match (dims, wanted) {
-        ([], _) => true,
-        ([_, ..], []) => false,
-        ([d, ds @ ..], [e, es @ ..]) => same_dim(*d, *e) && is_beginning(ds, es),
-    }
+    let [dim, later @ ..] = dims else {
+        return true;
+    };
+    let [first, rest @ ..] = wanted else {
+        return false;
+    };
+    same_dim(*dim, *first) && is_beginning(later, rest)
 }
 
 /// The list is a mere beginning of the wanted one.
@@ -157,6 +160,16 @@ fn is_short(dims: &[DimRef], wanted: &[DimRef]) -> bool
     ensures { result ≡ (nat_lt (length dims.now) (length wanted.now) && is_beginning_of dims.now wanted.now) }
 {
     dims.len() < wanted.len() && is_beginning(dims, wanted)
+}
+
+/// The dimensions that were named before, and one more.
+fn with_dim(alloc: Global, before: &[DimRef], dim: DimRef) -> Result<Vec<DimRef>, NoMemory>
+    ensures { IfOk result (λ v. v.items ≡ before.now ++ dim ∷ []) }
+{
+    let mut named = Vec::new(alloc);
+    named.extend_from_slice(before)?;
+    named.push(dim)?;
+    Ok(named)
 }
 
 /// Each member of a tuple stands behind the dimensions of those before it, which are few: a dimension that comes again is wrong.
@@ -190,9 +203,7 @@ pub fn wrong_tuple<'a>(
     if found.is_some() {
         return Ok(found);
     }
-    let mut named = Vec::new(alloc);
-    named.extend_from_slice(before)?;
-    named.push(dim_at(outline, own, path))?;
+    let named = with_dim(alloc, before, dim_at(outline, own, path))?;
     wrong_tuple(
         alloc,
         outline,
@@ -227,6 +238,7 @@ fn wrong_item<'a>(
     wrong_in(alloc, outline, own, purpose, item, before, Some(wanted))
 }
 
+/// The first wrong name of the items behind the first.
 #[cycle(wrong)]
 fn wrong_items<'a>(
     alloc: Global,
@@ -238,9 +250,10 @@ fn wrong_items<'a>(
     wanted: &[DimRef],
 ) -> Result<Option<&'a str>, NoMemory>
     requires { IsNumbered outline.now own.now }
-    ensures { IfOk result (λ found. option_map (λ s. s.now) found ≡ wrong_items_of outline.now own.now before.now wanted.now (map (said_of outline.now own.now purpose) items.now)) }
+    ensures { IfOk result (λ found. option_map (λ s. s.now) found ≡ wrong_items_of outline.now own.now before.now wanted.now (map (said_of outline.now own.now purpose) (drop 1 items.now))) }
 {
-    for item in items {
+    for at in 1..items.len() {
+        let item = &items[at];
         let found = wrong_item(alloc, outline, own, purpose, item, before, wanted)?;
         if found.is_some() {
             return Ok(found);
@@ -263,7 +276,7 @@ fn wrong_braces<'a>(
     requires { IsNumbered outline.now own.now }
     ensures { IfOk result (λ found. option_map (λ s. s.now) found ≡ (said_of_items outline.now own.now (map (said_of outline.now own.now purpose) items.now)).wrong before.now (option_map (λ w. w.now) wanted.entry)) }
 {
-    let [first, rest @ ..] = items else {
+    let [first, ..] = items else {
         return Ok(None);
     };
     let found = wrong_in(alloc, outline, own, purpose, first, before, wanted)?;
@@ -272,7 +285,7 @@ fn wrong_braces<'a>(
     }
     let mut dims = Vec::new(alloc);
     said_of_set(outline, own, purpose, first, &mut dims)?;
-    wrong_items(alloc, outline, own, purpose, rest, before, dims.as_slice())
+    wrong_items(alloc, outline, own, purpose, items, before, dims.as_slice())
 }
 
 /// The dimensions that were named before, and those of a set behind them.

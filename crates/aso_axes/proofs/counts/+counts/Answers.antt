@@ -12,8 +12,8 @@ count_items-loop-item-preserved t c =
     let i = c.loop-item.item-index in
     let a : ℕ = length (flat_map f (take i items)) in
     let b : ℕ = length (f c.item-item.result) in
-    c.plus.ensures
-    ∙ (ap (λ (x : ℕ). counted (x + c.in_ok-count_rows.result)) c.loop-item.invariant
+    c.plus-count.ensures
+    ∙ (ap (λ (x : ℕ). counted (x + c.in_ok-count_rows.field-0)) c.loop-item.invariant
     ∙ (ap (λ (y : ℕ). counted (counted a + y)) c.in_ok-count_rows.ensures
     ∙ (plus_counted a b
     ∙ ap counted (sym (length-append (flat_map f (take i items)) (f c.item-item.result)) ∙ ap length (sym (flat_more f items i c.item-item.result (omega arith) c.item-item.is))))))
