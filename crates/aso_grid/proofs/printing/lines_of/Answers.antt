@@ -23,8 +23,8 @@ returns c =
     let values = c.args.values.now in
     let columns = c.args.columns.now in
     let head : c.put_head.new.out.items ≡ head_line o own p.columns.rows columns =
-        c.in_ok-put_head.ensures
-        ∙ (ap (λ (xs : List ℕ). xs ++ head_line o own c.items.result.now columns) c.new-text.ensures.items
-        ∙ ap (λ (ts : List (List ℕ)). head_line o own ts columns) c.items.ensures) in
+    c.in_ok-put_head.ensures
+    ∙ (ap (λ (xs : List ℕ). xs ++ head_line o own c.items.result.now columns) c.new-text.ensures.items
+    ∙ ap (λ (ts : List (List ℕ)). head_line o own ts columns) c.items.ensures) in
     lines_made o own p values columns c.args.rows.now (kept_rows p values) (kept_columns p values) c.put_head.new.out.items c.put_rows.new.out.items
     c.requires.columns c.requires.rows head c.in_ok-put_rows.ensures
