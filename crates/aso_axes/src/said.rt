@@ -34,7 +34,7 @@ fn first_of(paths: &[List<Text>]) -> &[Text]
     }
 }
 
-fn said_of_tuple<'a>(
+pub fn said_of_tuple<'a>(
     outline: &Outline,
     own: &[ExtraMember],
     paths: &'a [List<Text>],

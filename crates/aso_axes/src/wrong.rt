@@ -174,7 +174,7 @@ fn with_dim(alloc: Global, before: &[DimRef], dim: DimRef) -> Result<Vec<DimRef>
 
 /// Each member of a tuple stands behind the dimensions of those before it, which are few: a dimension that comes again is wrong.
 #[tactic(auto, using(crate::proofs::WrongLemmas::some_first, crate::proofs::WrongLemmas::none_first, crate::proofs::WrongLemmas::some_mapped))]
-fn wrong_tuple<'a>(
+pub fn wrong_tuple<'a>(
     alloc: Global,
     outline: &'a Outline,
     own: &'a [ExtraMember],

@@ -1,4 +1,4 @@
-//! Trials of the layers together, on outlines as users write them: rules, members, formulas, values, sets, data files and
+//! Trials of the layers together, on outlines as users write them: rules, members, formulas, values, sets, grids, data files and
 //! load buffers. It holds tests alone, as tables of texts.
 #![tactic(auto)]
 
@@ -6,6 +6,8 @@
 mod buffers;
 #[cfg(test)]
 mod formulas;
+#[cfg(test)]
+mod grids;
 #[cfg(test)]
 mod loads;
 #[cfg(test)]

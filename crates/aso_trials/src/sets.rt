@@ -1,10 +1,9 @@
 // The tuples of sets, for an axis and for a region.
 use crate::outlines::{BASIC, SIZE, outline};
+use crate::values::extend;
 use aso_axes::{AxisFault, Purpose, tuples, tuples_for};
-use aso_formula::read;
 use aso_mdx::read_set;
-use aso_num::Text;
-use aso_outline::{DimRef, Extra, ExtraMember, Outline};
+use aso_outline::{DimRef, Extra, Outline};
 use std::alloc::{AllocError, Global};
 use std::fmt::Write;
 use std::test::Fail;
@@ -63,7 +62,7 @@ const STORED_SETS: &[(&str, &str)] = &[
     ),
     ("[Big].children", "1 NY CA"),
     ("{[Pct]}", "dimension Pct"),
-    ("[Measures].children", "dimension Pct"),
+    ("[Measures].children", "dimension Margin"),
     ("{[Sum],[NY]}", "dimension Sum"),
     ("descendants([Market])", "dimension Sum"),
     ("{([Jan],[X]),([NY],[Jan])}", "dimension X"),
@@ -72,24 +71,13 @@ const STORED_SETS: &[(&str, &str)] = &[
     ("{[Rome],[Pct]}", "unknown Rome"),
 ];
 
-/// Measures has a member `X` of the query's own.
-fn with_own(alloc: Global, outline: &Outline) -> Result<Extra, Fail> {
+/// The members of these names that a query defines in Measures.
+pub fn with_own(alloc: Global, outline: &Outline, names: &[&str]) -> Result<Extra, Fail> {
     let mut extra = Extra::new(alloc);
-    let name = Text::of(String::from_str(alloc, "X")?);
-    let formula = match read(alloc, outline, 2, "[Sales]") {
-        Ok(formula) => formula,
-        Err(_fault) => return Err(Fail::from("no formula")),
-    };
-    let member = ExtraMember {
-        name,
-        dim: 2,
-        formula,
-        solve: 20,
-    };
-    match outline.extend(alloc, &mut extra, member) {
-        Ok(()) => Ok(extra),
-        Err(_fault) => Err(Fail::from("not taken")),
+    for name in names {
+        extend(alloc, outline, &mut extra, name, 2, "[Sales]")?;
     }
+    Ok(extra)
 }
 
 fn put_member(
@@ -150,7 +138,7 @@ fn told(
 fn tuples_of_sets(rt: HostRuntime) -> Result<(), Fail> {
     let alloc = rt.alloc();
     let outline = outline(alloc, BASIC, SIZE)?;
-    let extra = with_own(alloc, &outline)?;
+    let extra = with_own(alloc, &outline, &["X"])?;
     for (text, expected) in SETS {
         assert_eq!(rt;
             told(alloc, &outline, &extra, Purpose::Axis, text)?.as_str(),
@@ -164,7 +152,7 @@ fn tuples_of_sets(rt: HostRuntime) -> Result<(), Fail> {
 fn stored_tuples_of_sets(rt: HostRuntime) -> Result<(), Fail> {
     let alloc = rt.alloc();
     let outline = outline(alloc, BASIC, SIZE)?;
-    let extra = with_own(alloc, &outline)?;
+    let extra = with_own(alloc, &outline, &["X"])?;
     for (text, expected) in STORED_SETS {
         assert_eq!(rt;
             told(alloc, &outline, &extra, Purpose::Region, text)?.as_str(),

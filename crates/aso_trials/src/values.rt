@@ -224,7 +224,7 @@ const OWN_VALUES: &[(&str, &str, &str)] = &[
 ];
 
 /// Takes a query's own member.
-fn extend(
+pub fn extend(
     alloc: Global,
     outline: &Outline,
     extra: &mut Extra,

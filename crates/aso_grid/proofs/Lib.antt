@@ -1,0 +1,5 @@
+pub mod Examples
+pub mod PlanLemmas
+pub mod SizeLemmas
+pub mod LineLemmas
+pub mod Turns
