@@ -156,7 +156,7 @@ fn forms_of_text(rt: HostRuntime) -> Result<(), Fail> {
 }
 
 const REASONS: &str =
-    "{'columns':[{'data':['Sales']},{'dimension':'Year'},{'data':['Cost']},{'dimension':'Market'}]}";
+    "{'header_records':1,'columns':[{'data':['Sales']},{'dimension':'Year'},{'data':['Cost']},{'dimension':'Market'}]}";
 
 /// A record and the reason for which it is rejected.
 type Record = (&'static [u8], u8);
@@ -210,11 +210,11 @@ const TOGETHER: &[Record] = &[
     (b"100000000000000,Jan,x,NY", 5),
 ];
 
-/// The records behind a first one that is loaded, as one data file; and what has to come of it.
+/// The records behind a header record and one that is loaded, as one data file; and what has to come of it.
 fn put_file(records: &[Record], file: &mut Vec<u8>, want: &mut String) -> Result<(), AllocError> {
-    file.extend_from_slice(b"1,Jan,2,NY\n")?;
+    file.extend_from_slice(b"h\n1,Jan,2,NY\n")?;
     want.push_str("0 0 0 has 10000; 0 0 1 has 20000; ")?;
-    let mut row = 1u64;
+    let mut row = 2u64;
     for (record, reason) in records {
         row = row.saturating_add(1);
         file.extend_from_slice(record)?;
