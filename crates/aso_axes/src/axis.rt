@@ -111,9 +111,9 @@ fn check_count(
     Ok(())
 }
 
-/// The tuples of a set.
+/// The tuples of a set whose names are known and in their places. It takes memory for each of them, however many there are.
 #[tactic(auto, using(crate::proofs::StoredRows::made_may))]
-fn make_tuples(
+pub fn make_tuples(
     alloc: Global,
     outline: &Outline,
     own: &[ExtraMember],
