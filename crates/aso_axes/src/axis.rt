@@ -111,9 +111,30 @@ fn check_count(
     Ok(())
 }
 
-/// The tuples of a set whose names are known and in their places. It takes memory for each of them, however many there are.
-#[tactic(auto, using(crate::proofs::StoredRows::made_may))]
+/// The tuples of a set, however many there are: whether it may have them is judged before.
 pub fn make_tuples(
+    alloc: Global,
+    outline: &Outline,
+    own: &[ExtraMember],
+    purpose: Purpose,
+    set: &SetText,
+) -> Result<AxisTuples, NoMemory>
+    requires { IsNumbered outline.now own.now }
+    ensures { IfOk result (λ t. t ≡ tuples_of outline.now own.now purpose set.now) }
+{
+    let mut dims = Vec::new(alloc);
+    said_of_set(outline, own, purpose, set, &mut dims)?;
+    let mut rows = Vec::new(alloc);
+    push_rows(alloc, outline, own, set, &mut rows)?;
+    Ok(AxisTuples {
+        dims: List::of(dims),
+        rows: List::of(rows),
+    })
+}
+
+/// The tuples of a set whose names are known and in their places: each has only members that may be there.
+#[tactic(auto, using(crate::proofs::StoredRows::made_may))]
+fn placed_tuples(
     alloc: Global,
     outline: &Outline,
     own: &[ExtraMember],
@@ -125,14 +146,8 @@ pub fn make_tuples(
     ensures tuples { IfOk result (λ t. t ≡ tuples_of outline.now own.now purpose set.now) }
     ensures allowed { IfOk result (λ t. list_all (list_all (may_have outline.now purpose)) t.rows ≡ true) }
 {
-    let mut dims = Vec::new(alloc);
-    said_of_set(outline, own, purpose, set, &mut dims)?;
-    let mut rows = Vec::new(alloc);
-    push_rows(alloc, outline, own, set, &mut rows)?;
-    Ok(AxisTuples {
-        dims: List::of(dims),
-        rows: List::of(rows),
-    })
+    let made = make_tuples(alloc, outline, own, purpose, set)?;
+    Ok(made)
 }
 
 fn check(
@@ -173,7 +188,7 @@ pub fn tuples_for(
         return Err(AxisFault::NoMemory(NoMemory));
     }
     check(alloc, outline, own, purpose, set)?;
-    Ok(make_tuples(alloc, outline, own, purpose, set)?)
+    Ok(placed_tuples(alloc, outline, own, purpose, set)?)
 }
 
 /// The tuples of an axis, which may have any member of the outline or of the query's own.

@@ -1,5 +1,6 @@
 -- What the definitions give of queries over the Basic outline: rows, columns, a slicer and an attribute, by hand.
 use Rattle.std.specs.Prelude.{pos}
+use Rattle.std.specs.Fmt.{digits}
 use Rattle.std.proofs.Common.{◌≡◌, ℕ, Bool, List, [], ◌∷◌, Option, true, false, refl, codes, Some, None}
 use Rattle.aso_outline.specs.declared.draft.Expr.TheBlock.{hidden-the_row-Expr-0}
 use Rattle.aso_outline.specs.declared.draft.Tuple.{Tuple}
@@ -53,7 +54,7 @@ values = Missing ∷ Missing ∷ Num (pos 15000) ∷ Num (pos 2) ∷ Missing ∷
 
 lines : grid_lines basic [] (plan false false) values
     ≡ codes "\tJan\tYear\nNY, Large\t#Missing\t1.5000\nCA, Large\t0.0002\t#Missing\n"
-unfolding grid_text seats hidden-the_row-Expr-0 denote.Hole.Carrier.hidden
+unfolding grid_text seats digits hidden-the_row-Expr-0 denote.Hole.Carrier.hidden
 lines = refl
 
 all_columns : kept_columns (plan true false) values ≡ (0 ∷ 1 ∷ 2 ∷ [])
