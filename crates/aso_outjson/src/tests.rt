@@ -1,4 +1,3 @@
 mod basic;
 mod faults;
-mod printed;
 mod told;

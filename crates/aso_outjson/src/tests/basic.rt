@@ -5,7 +5,7 @@ use std::alloc::Global;
 use std::process::Abort;
 use std::test::Fail;
 
-pub const BASIC: &str = "{ \"db\": \"Basic\", \"app\": \"Sample\",
+const BASIC: &str = "{ \"db\": \"Basic\", \"app\": \"Sample\",
   \"attributes\": [ { \"base\": \"Market\", \"name\": \"Size\",
     \"root\": { \"name\": \"Size\", \"children\": [ { \"name\": \"Large\" }, { \"name\": \"Small\" } ] } } ],
   \"dimensions\": [
