@@ -1,0 +1,4 @@
+pub mod ChosenLemmas
+pub mod CoverLemmas
+pub mod HighLemmas
+pub mod TableLemmas
