@@ -1,0 +1,4 @@
+pub mod Drafts
+pub mod Tables
+pub mod Answers
+pub mod Texts

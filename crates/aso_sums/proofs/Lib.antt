@@ -1,0 +1,4 @@
+pub mod Asking
+pub mod Placing
+pub mod Summing
+pub mod Named

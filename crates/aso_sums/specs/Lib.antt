@@ -1,0 +1,4 @@
+pub mod Stored
+pub mod Asking
+pub mod Summing
+pub mod Rows
