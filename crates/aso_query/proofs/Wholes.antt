@@ -1,5 +1,5 @@
 -- What is asked and what is answered are the whole: the grid of a query over stored values, or its refusal.
-use Rattle.std.proofs.Common.{◌⊎◌, inl, inr, ℕ, List, subst}
+use Rattle.std.proofs.Common.{inl, inr, ℕ, List, subst}
 use Rattle.aso_outline.specs.declared.draft.Draft.{Draft}
 use Rattle.aso_mdx.specs.declared.query.Query.{Query}
 use Rattle.aso_grid.specs.declared.grid_plan.GridPlan.{GridPlan}

@@ -1,5 +1,5 @@
 -- What a query comes to over stored values: a refusal, or a grid.
-use Rattle.std.specs.Prelude.{◌≡◌, ◌⊎◌, ℕ, List, [], ◌++◌, map, length, Option, Some, None, Ok}
+use Rattle.std.specs.Prelude.{◌≡◌, ◌⊎◌, ℕ, List, [], ◌++◌, map, length, Some, Ok}
 use Rattle.std.specs.List.{filter_map, find as first}
 use Rattle.aso_num.specs.declared.value.Val.{Val}
 use Rattle.aso_outline.specs.declared.draft.Draft.{Draft}

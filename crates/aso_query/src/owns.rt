@@ -1,5 +1,5 @@
 // A query's own members, each beside those before it.
-ghost use Rattle.std.specs.Prelude.{◌≡◌, ◌<◌, ◌++◌, ◌∷◌, [], true, length, slice_get, unwrap_or, List, Some, None, IfOk, IfErr, IfSome, OnOk};
+ghost use Rattle.std.specs.Prelude.{◌≡◌, ◌<◌, [], true, length, List, Some, IfOk, IfErr, IfSome, OnOk};
 ghost use Rattle.std.specs.List.{list_all, position};
 ghost use Rattle.aso_outline.specs.declared.draft.ExtraMember.{ExtraMember as Member};
 ghost use Rattle.aso_outline.specs.Atoms.{atoms};
@@ -8,13 +8,12 @@ ghost use Rattle.aso_outline.specs.Rules.{is_atom};
 ghost use Rattle.aso_formula.specs.Formula.{SpellsFormula};
 ghost use Rattle.aso_query.specs.declared.refusal.QueryRefusal.TheVariants.{Dimension as WrongDimension, Formula as WrongFormula};
 ghost use Rattle.aso_query.specs.Faults.{HasRefusal};
-ghost use Rattle.aso_query.specs.Owns.{AreTaken, IsNext, IsOwnRefusal, IsOwnsRefusal, Takes, base_named as base_named_of, dim_of, part as part_of, written_as};
+ghost use Rattle.aso_query.specs.Owns.{AreTaken, IsNext, IsOwnRefusal, IsOwnsRefusal, base_named as base_named_of, dim_of, part as part_of, written_as};
 
 use crate::refusal::{AskFault, QueryRefusal};
 use aso_axes::copied;
 use aso_formula::{FormulaFault, read};
 use aso_mdx::Own;
-use aso_memory::NoMemory;
 use aso_outline::{DraftDim, Expr, Extra, ExtraFault, ExtraMember, Outline};
 use std::alloc::Global;
 

@@ -1,9 +1,7 @@
-use Rattle.std.proofs.Common.{◌≡◌, ◌∙◌, ◌⊎◌, inl, inr, refl, sym, ap, subst}
-use Rattle.aso_outline.specs.declared.extend.ExtraFault.{ExtraFault}
+use Rattle.std.proofs.Common.{inl, inr, refl, subst}
 use Rattle.aso_outline.specs.declared.extend.ExtraFault.TheVariants.{InUse, Ranks}
 use Rattle.aso_outline.specs.Atoms.{atoms}
 use Rattle.aso_outline.specs.Extend.{IsExtraFault, first_foreign, first_unknown}
-use Rattle.aso_query.specs.Owns.{IsMisfit}
 use Rattle.aso_query.proofs.Takings.{has_formula, no_foreign, no_unknown, none_some}
 use Rattle.aso_query.proofs.owns.put.Goals as goal
 
