@@ -1,0 +1,4 @@
+pub mod Faults
+pub mod Owns
+pub mod Texts
+pub mod Answers
