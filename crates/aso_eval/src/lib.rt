@@ -1,0 +1,11 @@
+//! Sheets: the grid that one asks of its own cells, or why there is none.
+#![tactic(auto)]
+
+mod axes;
+mod cells;
+mod evaluating;
+mod refusal;
+mod text;
+
+pub use evaluating::eval;
+pub use refusal::{EvalFault, SheetRefusal};
