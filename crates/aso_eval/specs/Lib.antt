@@ -1,4 +1,0 @@
-pub mod Sheets
-pub mod Texts
-pub mod Faults
-pub mod Entries
