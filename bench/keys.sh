@@ -5,19 +5,10 @@
 set -eu
 top=$(cd "$(dirname "$0")/.." && pwd)
 turns=${1:-7}
-work=$(mktemp -d)
-trap 'rm -rf "$work"' EXIT
-mkdir "$work/crates"
-for name in aso_memory aso_num aso_tree aso_outline aso_words aso_keys; do
-    mkdir "$work/crates/$name"
-    for part in src specs proofs; do
-        if [ -d "$top/crates/$name/$part" ]; then
-            cp -R "$top/crates/$name/$part" "$work/crates/$name/"
-        fi
-    done
-    grep "^$name:" "$top/crates.txt" >>"$work/crates.txt"
-done
-echo 'times: aso_memory aso_num aso_tree aso_outline aso_words aso_keys sqlite_items indexmap thiserror anyhow' >>"$work/crates.txt"
+. "$top/bench/crates.sh"
+names='aso_memory aso_num aso_tree aso_outline aso_words aso_keys'
+gather $names
+echo "times: $names sqlite_items indexmap thiserror anyhow" >>"$work/crates.txt"
 mkdir -p "$work/crates/times/src"
 cat >"$work/crates/times/src/main.rt" <<'EOP'
 //! Times the calls on keys.

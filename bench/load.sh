@@ -6,19 +6,9 @@ set -eu
 top=$(cd "$(dirname "$0")/.." && pwd)
 turns=${1:-7}
 rows=${2:-200000}
-work=$(mktemp -d)
-trap 'rm -rf "$work"' EXIT
-mkdir "$work/crates"
+. "$top/bench/crates.sh"
 names='aso_memory aso_num aso_tree aso_outline aso_words aso_runs aso_keys aso_rules aso_load aso_buffer'
-for name in $names; do
-    mkdir "$work/crates/$name"
-    for part in src specs proofs; do
-        if [ -d "$top/crates/$name/$part" ]; then
-            cp -R "$top/crates/$name/$part" "$work/crates/$name/"
-        fi
-    done
-    grep "^$name:" "$top/crates.txt" >>"$work/crates.txt"
-done
+gather $names
 echo "times: $names sqlite_items serde_json csv indexmap thiserror anyhow" >>"$work/crates.txt"
 mkdir -p "$work/crates/times/src"
 cat >"$work/crates/times/src/main.rt" <<'EOP'

@@ -9,7 +9,7 @@ use Rattle.aso_outline.specs.Members.{Name, dim_at, dim_of, is_data_leaf, leaf_n
 use Rattle.aso_outline.specs.Ranks.{named}
 use Rattle.aso_spec.specs.Cells.{Key}
 use Rattle.aso_spec.specs.Named.{names_one, ordinals_named}
-use Rattle.aso_spec.specs.Eval.{seat_of}
+use Rattle.aso_spec.specs.Named.{seat_of}
 
 -- names as the code borrows them
 abbrev pub texts : List (Bor (List ℕ)) → List Name

@@ -13,7 +13,7 @@ use Rattle.aso_outline.specs.declared.draft.Draft.{Draft}
 use Rattle.aso_outline.specs.declared.draft.DraftAttr.{DraftAttr}
 use Rattle.aso_outline.specs.declared.draft.DraftDim.{DraftDim}
 use Rattle.aso_outline.specs.declared.draft.DraftMember.{DraftMember}
-use Rattle.aso_spec.specs.Sheet.{Member as Line}
+use Rattle.aso_spec.specs.Drafts.{Member as Line}
 use Rattle.aso_spec.specs.Drafts.{joined, dims_of, name_of, depths_of, last_at, parent_at, draft_member, member_of, draft_dim}
 use Rattle.aso_sheettext.specs.declared.text.MemberText.{MemberText}
 use Rattle.aso_sheettext.specs.declared.text.OutlineText.{OutlineText}

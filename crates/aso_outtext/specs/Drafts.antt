@@ -1,7 +1,7 @@
 -- The outline that lines say, as a draft.
 use Rattle.std.specs.Prelude.{[], map}
 use Rattle.aso_outline.specs.declared.draft.Draft.{Draft}
-use Rattle.aso_spec.specs.Sheet.{Member as Line}
+use Rattle.aso_spec.specs.Drafts.{Member as Line}
 use Rattle.aso_spec.specs.Drafts.{dims_of, draft_dim}
 use Rattle.aso_sheettext.specs.Sheet.{Member, Outline}
 

@@ -1,7 +1,7 @@
 -- The lines as the code has them, and its table of the last place at each depth.
 use Rattle.std.specs.Prelude.{ℕ, ◌-◌, Bool, not, List, ◌==◌, if◌then◌else◌, slice_index_or}
 use Rattle.aso_tree.specs.Trees.{no_parent}
-use Rattle.aso_spec.specs.Sheet.{Member as Line}
+use Rattle.aso_spec.specs.Drafts.{Member as Line}
 use Rattle.aso_sheettext.specs.declared.text.MemberText.{MemberText}
 
 abbrev pub line_of : MemberText → Line

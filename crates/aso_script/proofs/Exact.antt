@@ -1,5 +1,5 @@
 -- What is read is spelled, and what is spelled is read.
-use Rattle.std.proofs.Common.{◌≡◌, ℕ, zero, suc, ◌+◌, ◌-◌, ◌≤◌, Bool, true, false, not, ◌&&◌, ◌||◌, eqb, cond, List, [], ◌∷◌, ◌++◌, length, take, drop, Option, Some, None, refl, sym, ap, subst, ◌∙◌, append_assoc, append-nil, length-append, arith, codes, ◌⊎◌, inl, inr, ⊎_elim}
+use Rattle.std.proofs.Common.{◌≡◌, ℕ, zero, suc, ◌+◌, ◌-◌, ◌≤◌, Bool, true, false, not, ◌&&◌, ◌||◌, eqb, cond, List, [], ◌∷◌, ◌++◌, length, take, drop, Option, Some, None, refl, sym, ap, subst, ◌∙◌, append_assoc, length-append, arith, codes, ◌⊎◌, inl, inr, ⊎_elim}
 use Rattle.std.specs.Prelude.{nat_lt, nat_le, if◌then◌else◌}
 use Rattle.std.specs.List.{list_all, prefix_len, flat_map}
 use Rattle.std.proofs.lemmas.List.{take_at, drop_at, take-append-drop}
@@ -8,8 +8,8 @@ use Rattle.std.proofs.lemmas.Slice.Eq.{starts_is, ends_is}
 use Rattle.std.proofs.lemmas.Bool.Decides.{Decides-eqb, nat_tests}
 use Rattle.aso_outline.specs.Members.{Name}
 use Rattle.aso_outline.specs.Rules.{is_word_byte, is_word}
-use Rattle.aso_spec.specs.Script.{Statement, Add, Select, Spells, is_listed, is_list, is_list_or_none, is_amount, is_database, is_statement, bracketed, list_text, database_text, rows_text, slicer_text, statement_text}
-use Rattle.aso_script.specs.Reading.{Read, ◌>>=◌, after, before, front_if, word_len, read_word, until_close, read_closed, read_name, with_db, with_app, read_database, put_before, read_further, followed, read_list, ended, part_behind, read_part, at_end, read_amount, with_amount, with_names, with_cell, read_add, with_slicer, with_source, with_rows, with_columns, read_select, read_other, read_body, read_line}
+use Rattle.aso_script.specs.Script.{Addition, Spells, is_listed, is_list, is_amount, is_database, bracketed, list_text, database_text}
+use Rattle.aso_script.specs.Reading.{Read, ◌>>=◌, after, before, front_if, word_len, read_word, until_close, read_closed, read_name, with_db, with_app, read_database, put_before, read_further, followed, read_list, read_amount, addition_to, with_amount, with_names, with_cell, read_behind, read_body, read_line}
 use Rattle.aso_script.proofs.ByteLemmas.{both}
 
 -- ---- steps
@@ -206,7 +206,7 @@ list_whole (m ∷ ms) rest h none =
     ∙ ap (λ (o : Read Name). o >>= followed) (name_whole m (tail_text ms ++ rest) listed.0)
     ∙ ap (λ (o : Read (List Name)). o >>= put_before m) (further_whole 63 ms rest listed.1 few none)
 
--- ---- databases and parts
+-- ---- databases
 
 abbrev Database : Type 0
 Database = (List ℕ × List ℕ) × List ℕ
@@ -228,195 +228,68 @@ database_whole app db rest h none =
     ∙ ap (λ (o : Read (List ℕ)). o >>= with_app) (word_whole app (46 ∷ (db ++ rest)) p.0 refl)
     ∙ ap (λ (o : Read (List ℕ)). o >>= with_db app) (word_whole db rest p.1 none)
 
--- a list between two texts, where there is one
-abbrev pub part_text : List ℕ → List ℕ → Option (List Name) → List ℕ
-part_text first last None = []
-part_text first last (Some names) = first ++ list_text names ++ last
+-- ---- additions
 
-Part : Type 0
-Part = Option (List Name) × List ℕ
+abbrev line_of : List ℕ → List ℕ
+line_of text = codes "alter database " ++ (text ++ codes ";\n")
 
-part_case : (first last text : List ℕ) (x : Option (List Name) × List ℕ) (o : Option (List ℕ)) → after first text ≡ o → part_behind last text o ≡ Some x → (is_list_or_none x.0 ≡ true) × (text ≡ part_text first last x.0 ++ x.1)
-part_case first last text x None e h = subst (λ (y : Option (List Name) × List ℕ). (is_list_or_none y.0 ≡ true) × (text ≡ part_text first last y.0 ++ y.1)) (some_is _ _ h) (refl, refl)
-part_case first last text x (Some rest) e h =
-    let s = step (read_list rest) (ended last) x h in
-    let t = step (after last s.0.1) (λ (y : List ℕ). Some (Some s.0.0, y)) x s.2 in
-    let l = list_found rest s.0 s.1 in
-    subst (λ (y : Option (List Name) × List ℕ). (is_list_or_none y.0 ≡ true) × (text ≡ part_text first last y.0 ++ y.1)) (some_is _ _ t.2)
-    (l.0, after_found first text rest e ∙ ap (λ (y : List ℕ). first ++ y) (l.1 ∙ ap (λ (y : List ℕ). list_text s.0.0 ++ y) (after_found last s.0.1 t.0 t.1)) ∙ three first (list_text s.0.0) last t.0)
-  where
-    three : (a b c d : List ℕ) → a ++ (b ++ (c ++ d)) ≡ (a ++ b ++ c) ++ d
-    three a b c d = simp append_assoc
+one_line : (database list amount : List ℕ) → line_of (database ++ (codes " add cell (" ++ (list ++ (codes ") " ++ amount)))) ≡ (codes "alter database " ++ database ++ codes " add cell (" ++ list ++ codes ") " ++ amount ++ codes ";") ++ 10 ∷ []
+one_line database list amount = simp append_assoc
 
-part_found : (first last text : List ℕ) (x : Option (List Name) × List ℕ) → read_part first last text ≡ Some x → (is_list_or_none x.0 ≡ true) × (text ≡ part_text first last x.0 ++ x.1)
-part_found first last text x e = part_case first last text x (after first text) refl e
-
-part_none : (first last rest : List ℕ) → after first rest ≡ None → read_part first last rest ≡ Some (None, rest)
-part_none first last rest e = ap (part_behind last rest) e
-
-part_some : (first last : List ℕ) (names : List Name) (rest : List ℕ) → is_list names ≡ true → after (codes ",") (last ++ rest) ≡ None → read_part first last (part_text first last (Some names) ++ rest) ≡ Some (Some names, rest)
-part_some first last names rest h none =
-    let text : (first ++ list_text names ++ last) ++ rest ≡ first ++ (list_text names ++ (last ++ rest)) = simp append_assoc in
-    ap (read_part first last) text
-    ∙ ap (part_behind last (first ++ (list_text names ++ (last ++ rest)))) (after_whole first (list_text names ++ (last ++ rest)))
-    ∙ ap (λ (o : Read (List Name)). o >>= ended last) (list_whole names (last ++ rest) h none)
-    ∙ ap (λ (o : Option (List ℕ)). o >>= λ y. Some (Some names, y)) (after_whole last rest)
-
--- ---- statements
-
-abbrev line_of : List ℕ → List ℕ → List ℕ
-line_of word text = word ++ (text ++ codes ";\n")
-
-add_line : (database list amount : List ℕ) → codes "alter database " ++ ((database ++ (codes " add cell (" ++ (list ++ (codes ") " ++ amount)))) ++ codes ";\n") ≡ (codes "alter database " ++ database ++ codes " add cell (" ++ list ++ codes ") " ++ amount ++ codes ";") ++ 10 ∷ []
-add_line database list amount = simp append_assoc
-
-add_spelled : (text app db rest : List ℕ) (names : List Name) (amount : List ℕ)
-    → text ≡ database_text app db ++ (codes " add cell (" ++ rest) → rest ≡ list_text names ++ (codes ") " ++ amount)
-    → is_database app db ≡ true → is_list names ≡ true → is_amount amount ≡ true → Spells (line_of (codes "alter database ") text) (Add app db names amount)
-add_spelled text app db rest names amount e f d l a = record {
-  whole = rw (d, l, a) refl;
-  spelled = ap (line_of (codes "alter database ")) (e ∙ ap (λ (y : List ℕ). database_text app db ++ (codes " add cell (" ++ y)) f) ∙ add_line (database_text app db) (list_text names) amount;
+addition_spelled : (text rest : List ℕ) (d : List ℕ × List ℕ) (names : List Name) (amount : List ℕ)
+    → text ≡ database_text d.0 d.1 ++ (codes " add cell (" ++ rest) → rest ≡ list_text names ++ (codes ") " ++ amount)
+    → is_database d.0 d.1 ≡ true → is_list names ≡ true → is_amount amount ≡ true → Spells (line_of text) (addition_to d names amount)
+addition_spelled text rest d names amount e f is_d is_l is_a = record {
+  whole = rw (is_d, is_l, is_a) refl;
+  spelled = ap line_of (e ∙ ap (λ (y : List ℕ). database_text d.0 d.1 ++ (codes " add cell (" ++ y)) f) ∙ one_line (database_text d.0 d.1) (list_text names) amount;
 }
 
-add_found : (text : List ℕ) (s : Statement) → read_add text ≡ Some s → Spells (line_of (codes "alter database ") text) s
-add_found text s e =
+behind_found : (text : List ℕ) (s : Addition) → read_behind text ≡ Some s → Spells (line_of text) s
+behind_found text s e =
     let d = step (read_database text) with_cell s e in
     let l = step (after (codes " add cell (") d.0.1 >>= read_list) (with_names d.0.0) s d.2 in
     let k = step (after (codes " add cell (") d.0.1) read_list l.0 l.1 in
     let a = step (after (codes ") ") l.0.1) (with_amount d.0.0 l.0.0) s l.2 in
-    let z = step (read_amount a.0) (λ (amount : List ℕ). Some (Add d.0.0.0 d.0.0.1 l.0.0 amount)) s a.2 in
+    let z = step (read_amount a.0) (λ (amount : List ℕ). Some (addition_to d.0.0 l.0.0 amount)) s a.2 in
     let amount = if_some (is_amount a.0) a.0 z.0 z.1 in
     let database = database_found text d.0 d.1 in
     let list = list_found k.0 l.0 k.2 in
-    subst (λ (t : Statement). Spells (line_of (codes "alter database ") text) t) (ap (Add d.0.0.0 d.0.0.1 l.0.0) amount.1 ∙ some_is _ _ z.2)
-    (add_spelled text d.0.0.0 d.0.0.1 k.0 l.0.0 a.0 (database.1 ∙ ap (λ (y : List ℕ). database_text d.0.0.0 d.0.0.1 ++ y) (after_found (codes " add cell (") d.0.1 k.0 k.1))
+    subst (λ (t : Addition). Spells (line_of text) t) (ap (addition_to d.0.0 l.0.0) amount.1 ∙ some_is _ _ z.2)
+    (addition_spelled text k.0 d.0.0 l.0.0 a.0 (database.1 ∙ ap (λ (y : List ℕ). database_text d.0.0.0 d.0.0.1 ++ y) (after_found (codes " add cell (") d.0.1 k.0 k.1))
     (list.1 ∙ ap (λ (y : List ℕ). list_text l.0.0 ++ y) (after_found (codes ") ") l.0.1 a.0 a.1)) database.0 list.0 amount.0)
 
--- what is written between a select statement's first word and its end
-abbrev select_text : List Name → Option (List Name) → List ℕ → List ℕ → Option (List Name) → List ℕ
-select_text columns rows app db slicer =
-    list_text columns ++ (codes "} on columns" ++ (part_text (codes ", {") (codes "} on rows") rows ++ (codes " from " ++ (database_text app db ++ part_text (codes " where (") (codes ")") slicer))))
-
-rows_are : (rows : Option (List Name)) → part_text (codes ", {") (codes "} on rows") rows ≡ rows_text rows
-rows_are None = refl
-rows_are (Some names) = refl
-
-slicer_is : (slicer : Option (List Name)) → part_text (codes " where (") (codes ")") slicer ≡ slicer_text slicer
-slicer_is None = refl
-slicer_is (Some names) = refl
-
-select_line_at : (columns rows database slicer : List ℕ) → codes "select {" ++ ((columns ++ (codes "} on columns" ++ (rows ++ (codes " from " ++ (database ++ slicer))))) ++ codes ";\n") ≡ (codes "select {" ++ columns ++ codes "} on columns" ++ rows ++ codes " from " ++ database ++ slicer ++ codes ";") ++ 10 ∷ []
-select_line_at columns rows database slicer = simp append_assoc
-
-select_line : (columns : List Name) (rows : Option (List Name)) (app db : List ℕ) (slicer : Option (List Name)) → line_of (codes "select {") (select_text columns rows app db slicer) ≡ statement_text (Select columns rows app db slicer) ++ 10 ∷ []
-select_line columns rows app db slicer =
-    select_line_at (list_text columns) (part_text (codes ", {") (codes "} on rows") rows) (database_text app db) (part_text (codes " where (") (codes ")") slicer)
-    ∙ ap (λ (y : List ℕ). (codes "select {" ++ list_text columns ++ codes "} on columns" ++ y ++ codes " from " ++ database_text app db ++ part_text (codes " where (") (codes ")") slicer ++ codes ";") ++ 10 ∷ []) (rows_are rows)
-    ∙ ap (λ (y : List ℕ). (codes "select {" ++ list_text columns ++ codes "} on columns" ++ rows_text rows ++ codes " from " ++ database_text app db ++ y ++ codes ";") ++ 10 ∷ []) (slicer_is slicer)
-
-empty_is : (text : List ℕ) → length text ≡ 0 → text ≡ []
-empty_is [] e = refl
-empty_is (b ∷ bs) e = absurd (omega arith)
-
-nothing_left : (s t : Statement) (text : List ℕ) → at_end s text ≡ Some t → (text ≡ []) × (s ≡ t)
-nothing_left s t text e = let p = if_some (eqb (length text) 0) s t e in (empty_is text ((Decides-eqb (length text) 0).0 p.0), p.1)
-
-select_found : (text : List ℕ) (s : Statement) → read_select text ≡ Some s → Spells (line_of (codes "select {") text) s
-select_found text s e =
-    let c = step (read_list text) with_columns s e in
-    let r = step (after (codes "} on columns") c.0.1 >>= read_part (codes ", {") (codes "} on rows")) (with_rows c.0.0) s c.2 in
-    let q = step (after (codes "} on columns") c.0.1) (read_part (codes ", {") (codes "} on rows")) r.0 r.1 in
-    let d = step (after (codes " from ") r.0.1 >>= read_database) (with_source c.0.0 r.0.0) s r.2 in
-    let g = step (after (codes " from ") r.0.1) read_database d.0 d.1 in
-    let w = step (read_part (codes " where (") (codes ")") d.0.1) (with_slicer c.0.0 r.0.0 d.0.0) s d.2 in
-    let z = nothing_left (Select c.0.0 r.0.0 d.0.0.0 d.0.0.1 w.0.0) s w.0.1 w.2 in
-    let columns = list_found text c.0 c.1 in
-    let rows = part_found (codes ", {") (codes "} on rows") q.0 r.0 q.2 in
-    let database = database_found g.0 d.0 g.2 in
-    let slicer = part_found (codes " where (") (codes ")") d.0.1 w.0 w.1 in
-    let last : d.0.1 ≡ part_text (codes " where (") (codes ")") w.0.0 = slicer.1 ∙ ap (λ (y : List ℕ). part_text (codes " where (") (codes ")") w.0.0 ++ y) z.0 ∙ append-nil _ in
-    let text_is : text ≡ select_text c.0.0 r.0.0 d.0.0.0 d.0.0.1 w.0.0 =
-    columns.1 ∙ ap (λ (y : List ℕ). list_text c.0.0 ++ y) (after_found (codes "} on columns") c.0.1 q.0 q.1)
-    ∙ ap (λ (y : List ℕ). list_text c.0.0 ++ (codes "} on columns" ++ y)) (rows.1 ∙ ap (λ (y : List ℕ). part_text (codes ", {") (codes "} on rows") r.0.0 ++ y) (after_found (codes " from ") r.0.1 g.0 g.1))
-    ∙ ap (λ (y : List ℕ). list_text c.0.0 ++ (codes "} on columns" ++ (part_text (codes ", {") (codes "} on rows") r.0.0 ++ (codes " from " ++ y)))) (database.1 ∙ ap (λ (y : List ℕ). database_text d.0.0.0 d.0.0.1 ++ y) last) in
-    subst (λ (t : Statement). Spells (line_of (codes "select {") text) t) z.1
-    (record {
-      whole = rw (columns.0, rows.0, database.0, slicer.0) refl;
-      spelled = ap (line_of (codes "select {")) text_is ∙ select_line c.0.0 r.0.0 d.0.0.0 d.0.0.1 w.0.0;
-    })
-
-other_found : (text : List ℕ) (s : Statement) (o : Option (List ℕ)) → after (codes "alter database ") text ≡ o → read_other text o ≡ Some s → Spells (text ++ codes ";\n") s
-other_found text s (Some rest) e h = subst (λ (y : List ℕ). Spells (y ++ codes ";\n") s) (sym (after_found (codes "alter database ") text rest e)) (add_found rest s h)
-other_found text s None e h =
-    let q = step (after (codes "select {") text) read_select s h in
-    subst (λ (y : List ℕ). Spells (y ++ codes ";\n") s) (sym (after_found (codes "select {") text q.0 q.1)) (select_found q.0 s q.2)
-
-pub line_found : (line : List ℕ) (s : Statement) → read_line line ≡ Some s → Spells line s
+pub line_found : (line : List ℕ) (s : Addition) → read_line line ≡ Some s → Spells line s
 line_found line s e =
     let q = step (before (codes ";\n") line) read_body s e in
-    subst (λ (y : List ℕ). Spells y s) (sym (before_found (codes ";\n") line q.0 q.1)) (other_found q.0 s (after (codes "alter database ") q.0) refl q.2)
+    let r = step (after (codes "alter database ") q.0) read_behind s q.2 in
+    let is_line : line ≡ line_of r.0 = before_found (codes ";\n") line q.0 q.1 ∙ ap (λ (y : List ℕ). y ++ codes ";\n") (after_found (codes "alter database ") q.0 r.0 r.1) in
+    subst (λ (y : List ℕ). Spells y s) (sym is_line) (behind_found r.0 s r.2)
 
-add_whole : (app db : List ℕ) (names : List Name) (amount : List ℕ) → is_database app db ≡ true → is_list names ≡ true → is_amount amount ≡ true
-    → read_add (database_text app db ++ (codes " add cell (" ++ (list_text names ++ (codes ") " ++ amount)))) ≡ Some (Add app db names amount)
-add_whole app db names amount d l a =
-    ap (λ (o : Read (List ℕ × List ℕ)). o >>= with_cell) (database_whole app db (codes " add cell (" ++ (list_text names ++ (codes ") " ++ amount))) d refl)
-    ∙ ap (λ (o : Option (List ℕ)). o >>= read_list >>= with_names (app, db)) (after_whole (codes " add cell (") (list_text names ++ (codes ") " ++ amount)))
-    ∙ ap (λ (o : Read (List Name)). o >>= with_names (app, db)) (list_whole names (codes ") " ++ amount) l refl)
-    ∙ ap (λ (o : Option (List ℕ)). o >>= with_amount (app, db) names) (after_whole (codes ") ") amount)
-    ∙ rw a refl
+behind_whole : (d : List ℕ × List ℕ) (names : List Name) (amount : List ℕ) → is_database d.0 d.1 ≡ true → is_list names ≡ true → is_amount amount ≡ true
+    → read_behind (database_text d.0 d.1 ++ (codes " add cell (" ++ (list_text names ++ (codes ") " ++ amount)))) ≡ Some (addition_to d names amount)
+behind_whole d names amount is_d is_l is_a =
+    ap (λ (o : Read (List ℕ × List ℕ)). o >>= with_cell) (database_whole d.0 d.1 (codes " add cell (" ++ (list_text names ++ (codes ") " ++ amount))) is_d refl)
+    ∙ ap (λ (o : Option (List ℕ)). o >>= read_list >>= with_names d) (after_whole (codes " add cell (") (list_text names ++ (codes ") " ++ amount)))
+    ∙ ap (λ (o : Read (List Name)). o >>= with_names d) (list_whole names (codes ") " ++ amount) is_l refl)
+    ∙ ap (λ (o : Option (List ℕ)). o >>= with_amount d names) (after_whole (codes ") ") amount)
+    ∙ rw is_a refl
 
-rows_whole : (rows : Option (List Name)) (rest : List ℕ) → is_list_or_none rows ≡ true
-    → read_part (codes ", {") (codes "} on rows") (part_text (codes ", {") (codes "} on rows") rows ++ (codes " from " ++ rest)) ≡ Some (rows, codes " from " ++ rest)
-rows_whole None rest h = part_none (codes ", {") (codes "} on rows") (codes " from " ++ rest) refl
-rows_whole (Some names) rest h = part_some (codes ", {") (codes "} on rows") names (codes " from " ++ rest) h refl
+body_whole : (text : List ℕ) → read_line (line_of text) ≡ read_behind text
+body_whole text =
+    ap (λ (o : Option (List ℕ)). o >>= read_body) (before_whole (codes ";\n") (codes "alter database " ++ text))
+    ∙ ap (λ (o : Option (List ℕ)). o >>= read_behind) (after_whole (codes "alter database ") text)
 
-slicer_whole : (slicer : Option (List Name)) → is_list_or_none slicer ≡ true → read_part (codes " where (") (codes ")") (part_text (codes " where (") (codes ")") slicer) ≡ Some (slicer, [])
-slicer_whole None h = part_none (codes " where (") (codes ")") [] refl
-slicer_whole (Some names) h = ap (read_part (codes " where (") (codes ")")) (sym (append-nil (part_text (codes " where (") (codes ")") (Some names)))) ∙ part_some (codes " where (") (codes ")") names [] h refl
+pub line_whole : (line : List ℕ) (s : Addition) → Spells line s → read_line line ≡ Some s
+line_whole line s h =
+    let p = both (is_database s.app s.db) (is_list s.names && is_amount s.amount) h.whole in
+    let q = both (is_list s.names) (is_amount s.amount) p.1 in
+    let text = database_text s.app s.db ++ (codes " add cell (" ++ (list_text s.names ++ (codes ") " ++ s.amount))) in
+    ap read_line (h.spelled ∙ sym (one_line (database_text s.app s.db) (list_text s.names) s.amount))
+    ∙ body_whole text
+    ∙ behind_whole (s.app, s.db) s.names s.amount p.0 q.0 q.1
 
-no_word : (slicer : Option (List Name)) → word_len (part_text (codes " where (") (codes ")") slicer) ≡ 0
-no_word None = refl
-no_word (Some names) = refl
-
-select_whole : (columns : List Name) (rows : Option (List Name)) (app db : List ℕ) (slicer : Option (List Name))
-    → is_list columns ≡ true → is_list_or_none rows ≡ true → is_database app db ≡ true → is_list_or_none slicer ≡ true
-    → read_select (select_text columns rows app db slicer) ≡ Some (Select columns rows app db slicer)
-select_whole columns rows app db slicer c r d w =
-    let last = part_text (codes " where (") (codes ")") slicer in
-    let source = database_text app db ++ last in
-    let row_part = part_text (codes ", {") (codes "} on rows") rows ++ (codes " from " ++ source) in
-    ap (λ (o : Read (List Name)). o >>= with_columns) (list_whole columns (codes "} on columns" ++ row_part) c refl)
-    ∙ ap (λ (o : Option (List ℕ)). o >>= read_part (codes ", {") (codes "} on rows") >>= with_rows columns) (after_whole (codes "} on columns") row_part)
-    ∙ ap (λ (o : Read (Option (List Name))). o >>= with_rows columns) (rows_whole rows source r)
-    ∙ ap (λ (o : Option (List ℕ)). o >>= read_database >>= with_source columns rows) (after_whole (codes " from ") source)
-    ∙ ap (λ (o : Read (List ℕ × List ℕ)). o >>= with_source columns rows) (database_whole app db last d (no_word slicer))
-    ∙ ap (λ (o : Read (Option (List Name))). o >>= with_slicer columns rows (app, db)) (slicer_whole slicer w)
-
-body_whole : (line text : List ℕ) → line ≡ text ++ codes ";\n" → read_line line ≡ read_body text
-body_whole line text e = ap read_line e ∙ ap (λ (o : Option (List ℕ)). o >>= read_body) (before_whole (codes ";\n") text)
-
-whole_at : (line : List ℕ) (s : Statement) → is_statement s ≡ true → line ≡ statement_text s ++ 10 ∷ [] → read_line line ≡ Some s
-whole_at line (Add app db names amount) h e =
-    let p = both (is_database app db) (is_list names && is_amount amount) h in
-    let q = both (is_list names) (is_amount amount) p.1 in
-    let text = database_text app db ++ (codes " add cell (" ++ (list_text names ++ (codes ") " ++ amount))) in
-    body_whole line (codes "alter database " ++ text) (e ∙ sym (add_line (database_text app db) (list_text names) amount))
-    ∙ ap (read_other (codes "alter database " ++ text)) (after_whole (codes "alter database ") text)
-    ∙ add_whole app db names amount p.0 q.0 q.1
-whole_at line (Select columns rows app db slicer) h e =
-    let p = both (is_list columns && is_list_or_none rows) (is_database app db && is_list_or_none slicer) h in
-    let q = both (is_list columns) (is_list_or_none rows) p.0 in
-    let r = both (is_database app db) (is_list_or_none slicer) p.1 in
-    let text = select_text columns rows app db slicer in
-    body_whole line (codes "select {" ++ text) (e ∙ sym (select_line columns rows app db slicer))
-    ∙ ap (λ (o : Option (List ℕ)). o >>= read_select) (after_whole (codes "select {") text)
-    ∙ select_whole columns rows app db slicer q.0 q.1 r.0 r.1
-
-pub line_whole : (line : List ℕ) (s : Statement) → Spells line s → read_line line ≡ Some s
-line_whole line s h = whole_at line s h.whole h.spelled
-
-pub spells_one : (line : List ℕ) (s t : Statement) → Spells line s → Spells line t → s ≡ t
+pub spells_one : (line : List ℕ) (s t : Addition) → Spells line s → Spells line t → s ≡ t
 spells_one line s t h k = some_is s t (sym (line_whole line s h) ∙ line_whole line t k)
 
-pub spells_none : (line : List ℕ) → read_line line ≡ None → (s : Statement) → Spells line s → ⊥
+pub spells_none : (line : List ℕ) → read_line line ≡ None → (s : Addition) → Spells line s → ⊥
 spells_none line e s h = let x : None ≡ Some s = sym e ∙ line_whole line s h in let n : ⊥ = cc in n

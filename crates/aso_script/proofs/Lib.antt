@@ -3,3 +3,4 @@ pub mod ByteLemmas
 pub mod Exact
 pub mod Further
 pub mod LineLemmas
+pub mod Examples

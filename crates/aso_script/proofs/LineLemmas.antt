@@ -1,7 +1,7 @@
 -- The first line of a text, and the lines behind it.
 use Rattle.std.proofs.Common.{◌≡◌, ℕ, suc, ◌+◌, ◌<◌, Bool, true, false, eqb, List, [], ◌∷◌, ◌++◌, length, take, drop, refl, sym, ap, ◌∙◌, append_assoc, append-nil, arith}
 use Rattle.std.specs.Prelude.{if◌then◌else◌}
-use Rattle.aso_spec.specs.Script.{Line, lines_of, placed, script_lines}
+use Rattle.aso_script.specs.Script.{Line, lines_of, placed, script_lines}
 use Rattle.aso_script.specs.Lines.{first_len}
 
 abbrev pub line_at : ℕ → List ℕ → Line

@@ -1,6 +1,6 @@
 -- Lines as the code takes them.
 use Rattle.std.specs.Prelude.{ℕ, suc, List, [], ◌∷◌, ◌==◌, if◌then◌else◌}
-use Rattle.aso_spec.specs.Script.{Line}
+use Rattle.aso_script.specs.Script.{Line}
 use Rattle.aso_script.specs.declared.cutting.Line.{Line as Taken}
 
 -- the line that a value stands for

@@ -2,14 +2,12 @@
 use Rattle.std.specs.Prelude.{◌≡◌, Option, Some, None, Result, Ok, Err}
 use Rattle.aso_script.specs.declared.stop.Stop.{Stop}
 use Rattle.aso_script.specs.declared.stop.Stop.TheVariants.{NoMemory, Faulty}
-use Rattle.aso_script.specs.declared.statement.Statement.{Statement as Read}
-use Rattle.aso_script.specs.declared.statement.Statement.TheVariants.{Add as ReadAdd, Select as ReadSelect}
-use Rattle.aso_spec.specs.Script.{Statement, Add, Select}
+use Rattle.aso_script.specs.declared.addition.Addition.{Addition as Read}
+use Rattle.aso_script.specs.Script.{Addition}
 
--- the statement that a value of the reader stands for
-abbrev pub statement : Read → Statement
-statement (ReadAdd app db names amount) = Add app db names amount
-statement (ReadSelect columns rows app db slicer) = Select columns rows app db slicer
+-- the addition that a value of the reader stands for
+abbrev pub addition : Read → Addition
+addition a = record { app = a.app; db = a.db; names = a.names; amount = a.amount }
 
 abbrev pub Fails : {A : Type 0} → Stop → Option A → Type 0
 Fails NoMemory read = Unit {0}

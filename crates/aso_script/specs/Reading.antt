@@ -1,9 +1,9 @@
--- How a statement's text is read: a value and what follows it, or none.
+-- How an addition's text is read: a value and what follows it, or none.
 use Rattle.std.specs.Prelude.{ℕ, zero, suc, ◌+◌, ◌-◌, Bool, not, List, [], ◌∷◌, length, take, drop, Option, Some, None, nat_eq, nat_lt, ◌==◌, if◌then◌else◌, codes}
 use Rattle.std.specs.List.{starts_with, ends_with, prefix_len}
 use Rattle.aso_outline.specs.Members.{Name}
 use Rattle.aso_outline.specs.Rules.{is_word_byte, is_word}
-use Rattle.aso_spec.specs.Script.{Statement, Add, Select, is_listed, is_amount}
+use Rattle.aso_script.specs.Script.{Addition, is_listed, is_amount}
 
 abbrev pub Read : Type 0 → Type 0
 Read A = Option (A × List ℕ)
@@ -71,58 +71,29 @@ followed x = read_further 63 x.1 >>= put_before x.0
 abbrev pub read_list : List ℕ → Read (List Name)
 read_list text = read_name text >>= followed
 
-abbrev pub ended : List ℕ → List Name × List ℕ → Read (Option (List Name))
-ended last x = after last x.1 >>= λ rest. Some (Some x.0, rest)
-
--- a list between two fixed texts, or none where the first isn't there
-abbrev pub part_behind : List ℕ → List ℕ → Option (List ℕ) → Read (Option (List Name))
-part_behind last text None = Some (None, text)
-part_behind last text (Some rest) = read_list rest >>= ended last
-
-abbrev pub read_part : List ℕ → List ℕ → List ℕ → Read (Option (List Name))
-read_part first last text = part_behind last text (after first text)
-
--- ---- statements, without their ends
-
-abbrev pub at_end : Statement → List ℕ → Option Statement
-at_end s text = if length text == 0 then Some s else None
+-- ---- additions, without their ends
 
 abbrev pub read_amount : List ℕ → Option (List ℕ)
 read_amount text = if is_amount text then Some text else None
 
-abbrev pub with_amount : List ℕ × List ℕ → List Name → List ℕ → Option Statement
-with_amount d names text = read_amount text >>= λ amount. Some (Add d.0 d.1 names amount)
+abbrev pub addition_to : List ℕ × List ℕ → List Name → List ℕ → Addition
+addition_to d names amount = record { app = d.0; db = d.1; names = names; amount = amount }
 
-abbrev pub with_names : List ℕ × List ℕ → List Name × List ℕ → Option Statement
+abbrev pub with_amount : List ℕ × List ℕ → List Name → List ℕ → Option Addition
+with_amount d names text = read_amount text >>= λ amount. Some (addition_to d names amount)
+
+abbrev pub with_names : List ℕ × List ℕ → List Name × List ℕ → Option Addition
 with_names d x = after (codes ") ") x.1 >>= with_amount d x.0
 
-abbrev pub with_cell : (List ℕ × List ℕ) × List ℕ → Option Statement
+abbrev pub with_cell : (List ℕ × List ℕ) × List ℕ → Option Addition
 with_cell d = after (codes " add cell (") d.1 >>= read_list >>= with_names d.0
 
-abbrev pub read_add : List ℕ → Option Statement
-read_add text = read_database text >>= with_cell
+-- an addition behind its first two words
+abbrev pub read_behind : List ℕ → Option Addition
+read_behind text = read_database text >>= with_cell
 
-abbrev pub with_slicer : List Name → Option (List Name) → List ℕ × List ℕ → Option (List Name) × List ℕ → Option Statement
-with_slicer columns rows d x = at_end (Select columns rows d.0 d.1 x.0) x.1
+abbrev pub read_body : List ℕ → Option Addition
+read_body text = after (codes "alter database ") text >>= read_behind
 
-abbrev pub with_source : List Name → Option (List Name) → (List ℕ × List ℕ) × List ℕ → Option Statement
-with_source columns rows d = read_part (codes " where (") (codes ")") d.1 >>= with_slicer columns rows d.0
-
-abbrev pub with_rows : List Name → Option (List Name) × List ℕ → Option Statement
-with_rows columns x = after (codes " from ") x.1 >>= read_database >>= with_source columns x.0
-
-abbrev pub with_columns : List Name × List ℕ → Option Statement
-with_columns x = after (codes "} on columns") x.1 >>= read_part (codes ", {") (codes "} on rows") >>= with_rows x.0
-
-abbrev pub read_select : List ℕ → Option Statement
-read_select text = read_list text >>= with_columns
-
-abbrev pub read_other : List ℕ → Option (List ℕ) → Option Statement
-read_other text None = after (codes "select {") text >>= read_select
-read_other text (Some rest) = read_add rest
-
-abbrev pub read_body : List ℕ → Option Statement
-read_body text = read_other text (after (codes "alter database ") text)
-
-abbrev pub read_line : List ℕ → Option Statement
+abbrev pub read_line : List ℕ → Option Addition
 read_line line = before (codes ";\n") line >>= read_body

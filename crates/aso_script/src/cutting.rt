@@ -1,6 +1,6 @@
 // The lines of a script.
 ghost use Rattle.std.specs.Prelude.{◌≡◌, ◌≤◌, ◌<◌, length, map, IfOk};
-ghost use Rattle.aso_spec.specs.Script.{script_lines};
+ghost use Rattle.aso_script.specs.Script.{script_lines};
 ghost use Rattle.aso_script.specs.Lines.{first_len, line};
 
 use aso_memory::NoMemory;

@@ -1,19 +1,19 @@
-//! Scripts: lines, each of which is a statement of one of two forms.
+//! Scripts: lines, and the additions that some of them spell.
 #![tactic(auto)]
 
+mod addition;
 mod cutting;
 mod laws;
 mod name;
 mod parts;
 mod reading;
-mod statement;
 mod stop;
 
+pub use addition::Addition;
 pub use cutting::{Line, cut_lines};
-pub use laws::spells_one_statement;
+pub use laws::spells_one_addition;
 pub use name::{Name, WrittenAmount};
-pub use reading::read_statement;
-pub use statement::Statement;
+pub use reading::read_addition;
 
 #[cfg(test)]
 mod tests;

@@ -1,9 +1,9 @@
-// The pieces of a statement's text.
+// The pieces of an addition's text.
 ghost use Rattle.std.specs.Prelude.{◌≡◌, ◌≤◌, ◌==◌, ◌||◌, not, true, false, [], ◌∷◌, length, option_map, nat_eq, IfSome, IfNone};
 ghost use Rattle.std.specs.List.{list_all, ends_with};
 ghost use Rattle.aso_num.specs.AmountText.{amount_of, parts_of, digits_len, whole_and_rest};
 ghost use Rattle.aso_outline.specs.Rules.{is_word_byte, is_word};
-ghost use Rattle.aso_spec.specs.Script.{is_listed};
+ghost use Rattle.aso_script.specs.Script.{is_listed};
 ghost use Rattle.aso_script.specs.Reading.{after, before, word_len, read_word, until_close, read_closed, read_name, read_database, read_amount};
 ghost use Rattle.aso_script.specs.Read.{Gives};
 

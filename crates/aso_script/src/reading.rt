@@ -1,12 +1,12 @@
-// Statements.
+// Additions.
 ghost use Rattle.std.specs.Prelude.{◌≡◌, option_map, Some, IfOk, IfSome, IfNone};
-ghost use Rattle.aso_spec.specs.Script.{Statement as Spelled, Spells};
-ghost use Rattle.aso_script.specs.Reading.{read_list, read_part, read_add, read_select, read_line};
-ghost use Rattle.aso_script.specs.Read.{Gives, statement};
+ghost use Rattle.aso_script.specs.Script.{Addition as Spelled, Spells};
+ghost use Rattle.aso_script.specs.Reading.{read_list, read_behind, read_line};
+ghost use Rattle.aso_script.specs.Read.{Gives, addition};
 
+use crate::addition::Addition;
 use crate::name::Name;
 use crate::parts::{after, amount, before, behind, database, name};
-use crate::statement::Statement;
 use crate::stop::Stop;
 use aso_memory::NoMemory;
 use aso_num::List;
@@ -32,32 +32,16 @@ fn list<'a>(alloc: Global, text: &'a [u8]) -> Result<(List<Name<'a>>, &'a [u8]),
     Ok((List::of(names), rest))
 }
 
-// A list between two texts, or none where the first isn't there.
-fn part<'a>(
-    alloc: Global,
-    first: &[u8],
-    last: &[u8],
-    text: &'a [u8],
-) -> Result<(Option<List<Name<'a>>>, &'a [u8]), Stop>
-    ensures { Gives (λ x. (x.0, x.1.now)) result (read_part first.now last.now text.now) }
-{
-    let Some(rest) = after(text, first) else {
-        return Ok((None, text));
-    };
-    let (names, rest) = list(alloc, rest)?;
-    let rest = behind(rest, last)?;
-    Ok((Some(names), rest))
-}
-
-fn add<'a>(alloc: Global, text: &'a [u8]) -> Result<Statement<'a>, Stop>
-    ensures { Gives statement result (read_add text.now) }
+// The addition whose text follows the first two words.
+fn behind_words<'a>(alloc: Global, text: &'a [u8]) -> Result<Addition<'a>, Stop>
+    ensures { Gives addition result (read_behind text.now) }
 {
     let ((app, db), rest) = database(text)?;
     let rest = behind(rest, b" add cell (")?;
     let (names, rest) = list(alloc, rest)?;
     let rest = behind(rest, b") ")?;
     let amount = amount(rest)?;
-    Ok(Statement::Add {
+    Ok(Addition {
         app,
         db,
         names,
@@ -65,48 +49,24 @@ fn add<'a>(alloc: Global, text: &'a [u8]) -> Result<Statement<'a>, Stop>
     })
 }
 
-fn select<'a>(alloc: Global, text: &'a [u8]) -> Result<Statement<'a>, Stop>
-    ensures { Gives statement result (read_select text.now) }
-{
-    let (columns, rest) = list(alloc, text)?;
-    let rest = behind(rest, b"} on columns")?;
-    let (rows, rest) = part(alloc, b", {", b"} on rows", rest)?;
-    let rest = behind(rest, b" from ")?;
-    let ((app, db), rest) = database(rest)?;
-    let (slicer, rest) = part(alloc, b" where (", b")", rest)?;
-    if !rest.is_empty() {
-        return Err(Stop::Faulty);
-    }
-    Ok(Statement::Select {
-        columns,
-        rows,
-        app,
-        db,
-        slicer,
-    })
-}
-
-fn statement<'a>(alloc: Global, line: &'a [u8]) -> Result<Statement<'a>, Stop>
-    ensures { Gives statement result (read_line line.now) }
+fn spelled<'a>(alloc: Global, line: &'a [u8]) -> Result<Addition<'a>, Stop>
+    ensures { Gives addition result (read_line line.now) }
 {
     let Some(text) = before(line, b";\n") else {
         return Err(Stop::Faulty);
     };
-    if let Some(rest) = after(text, b"alter database ") {
-        return add(alloc, rest);
-    }
-    let rest = behind(text, b"select {")?;
-    select(alloc, rest)
+    let rest = behind(text, b"alter database ")?;
+    behind_words(alloc, rest)
 }
 
-/// The statement that a line spells, or `None` where it spells none. The line has its LF at its end. It takes time in
+/// The addition that a line spells, or `None` where it spells none. The line has its LF at its end. It takes time in
 /// proportion to the line.
-pub fn read_statement<'a>(alloc: Global, line: &'a [u8]) -> Result<Option<Statement<'a>>, NoMemory>
-    ensures found { IfOk result (λ r. IfSome r (λ s. Spells line.now (statement s))) }
-    ensures only { (s : Spelled) → Spells line.now s → IfOk result (λ r. option_map statement r ≡ Some s) }
-    ensures none { IfOk result (λ r. IfNone r ((s : Spelled) → Spells line.now s → ⊥)) }
+pub fn read_addition<'a>(alloc: Global, line: &'a [u8]) -> Result<Option<Addition<'a>>, NoMemory>
+    ensures found { IfOk result (λ r. IfSome r (λ a. Spells line.now (addition a))) }
+    ensures only { (a : Spelled) → Spells line.now a → IfOk result (λ r. option_map addition r ≡ Some a) }
+    ensures none { IfOk result (λ r. IfNone r ((a : Spelled) → Spells line.now a → ⊥)) }
 {
-    match statement(alloc, line) {
+    match spelled(alloc, line) {
         Ok(read) => Ok(Some(read)),
         Err(Stop::Faulty) => Ok(None),
         Err(Stop::NoMemory) => Err(NoMemory),

@@ -1,6 +1,6 @@
 use std::alloc::{AllocError, AllocFailed};
 
-// Why no statement was read: no memory, or the line spells none.
+// Why no addition was read: no memory, or the line spells none.
 #[derive(Clone, Copy, Debug, PartialEq, Eq)]
 pub enum Stop {
     NoMemory,

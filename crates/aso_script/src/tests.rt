@@ -1,61 +1,34 @@
 use super::*;
 use aso_memory::NoMemory;
-use aso_num::List;
-use std::alloc::{AllocError, Global};
+use std::alloc::Global;
 use std::fmt::Write;
 use std::test::Fail;
 
-fn put_names(names: &List<Name<'_>>, out: &mut String) -> Result<(), AllocError> {
-    for name in names.items() {
-        write!(out, "<{}>", name.as_str())?;
-    }
-    Ok(())
-}
-
-fn put_list(names: &Option<List<Name<'_>>>, out: &mut String) -> Result<(), AllocError> {
-    match names {
-        Some(names) => put_names(names, out),
-        None => out.push('-'),
-    }
-}
-
-// The parts of the statement that a line spells, an amount in units.
+// The parts of the addition that a line spells, its amount in units too.
 fn told(alloc: Global, line: &[u8]) -> Result<String, NoMemory> {
     let mut out = String::new(alloc);
-    match read_statement(alloc, line)? {
-        Some(
-            Statement::Add {
-                app,
-                db,
-                names,
-                amount,
-            },
-        ) => {
-            write!(out, "{}/{} ", app.as_str(), db.as_str())?;
-            put_names(&names, &mut out)?;
-            write!(out, " {} {}", amount.as_str(), amount.amount().units())?;
-        }
-        Some(
-            Statement::Select {
-                columns,
-                rows,
-                app,
-                db,
-                slicer,
-            },
-        ) => {
-            put_names(&columns, &mut out)?;
-            put_list(&rows, &mut out)?;
-            write!(out, " {}/{} ", app.as_str(), db.as_str())?;
-            put_list(&slicer, &mut out)?;
-        }
-        None => out.push_str("none")?,
+    let Some(read) = read_addition(alloc, line)? else {
+        out.push_str("none")?;
+        return Ok(out);
+    };
+    out.push_str(read.app.as_str())?;
+    out.push('/')?;
+    out.push_str(read.db.as_str())?;
+    out.push(' ')?;
+    for name in read.names.items() {
+        out.push('<')?;
+        out.push_str(name.as_str())?;
+        out.push('>')?;
     }
+    out.push(' ')?;
+    out.push_str(read.amount.as_str())?;
+    let units = read.amount.amount().units();
+    write!(out, " {units}")?;
     Ok(out)
 }
 
 #[test]
-fn lines_are_read_as_statements(rt: HostRuntime) -> Result<(), Fail> {
+fn lines_are_read_as_additions(rt: HostRuntime) -> Result<(), Fail> {
     let cases = [
         (
             b"alter database Sample.Basic add cell ([Jan],[NY]) 10.5;\n".as_slice(),
@@ -66,35 +39,27 @@ fn lines_are_read_as_statements(rt: HostRuntime) -> Result<(), Fail> {
             "A_1/b <N Y, (1)> -0.0001 -1",
         ),
         (
-            b"select {[Jan],[Year]} on columns, {[Market]} on rows from Sample.Basic;\n",
-            "<Jan><Year><Market> Sample/Basic -",
+            b"alter database A.B add cell ([Z\xc3\xbcrich],[;]) +007;\n",
+            "A/B <Z\u{fc}rich><;> +007 70000",
         ),
-        (
-            b"select {[Jan]} on columns from Sample.Basic where ([NY],[;]);\n",
-            "<Jan>- Sample/Basic <NY><;>",
-        ),
-        (
-            b"select {[Z\xc3\xbcrich]} on columns, {[a]} on rows from A.B where ([b]);\n",
-            "<Z\u{fc}rich><a> A/B <b>",
-        ),
-        (b"select {[Jan]} on columns from Sample.Basic;", "none"),
-        (b"select {[Jan]} on columns from Sample.Basic;\r\n", "none"),
-        (b"select {[Jan]} on columns from Sample.Basic\n", "none"),
-        (
-            b"select {[Jan], [Feb]} on columns from Sample.Basic;\n",
-            "none",
-        ),
-        (b"Select {[Jan]} on columns from Sample.Basic;\n", "none"),
-        (b"select {[]} on columns from Sample.Basic;\n", "none"),
-        (b"select {} on columns from Sample.Basic;\n", "none"),
-        (b"select {[\xff]} on columns from Sample.Basic;\n", "none"),
-        (b"select {[Jan]} on columns from Sample.B-c;\n", "none"),
+        (b"alter database A.B add cell ([Jan]) 5;", "none"),
+        (b"alter database A.B add cell ([Jan]) 5;\r\n", "none"),
+        (b"alter database A.B add cell ([Jan]) 5\n", "none"),
+        (b"alter database A.B add cell ([Jan], [Feb]) 5;\n", "none"),
+        (b"Alter database A.B add cell ([Jan]) 5;\n", "none"),
+        (b"alter database A.B add cell ([]) 5;\n", "none"),
+        (b"alter database A.B add cell () 5;\n", "none"),
+        (b"alter database A.B add cell ([\xff]) 5;\n", "none"),
+        (b"alter database A.B-c add cell ([Jan]) 5;\n", "none"),
+        (b"alter database A add cell ([Jan]) 5;\n", "none"),
+        (b"alter database A.B add cell ([Jan]) ;\n", "none"),
         (b"alter database A.B add cell ([Jan]) 5.;\n", "none"),
         (b"alter database A.B add cell ([Jan]) 1.00000;\n", "none"),
         (
             b"alter database A.B add cell ([Jan]) 100000000000000;\n",
             "none",
         ),
+        (b"select {[Jan]} on columns from A.B;\n", "none"),
         (b"\n", "none"),
     ];
     for (line, parts) in cases {

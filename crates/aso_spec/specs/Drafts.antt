@@ -1,4 +1,4 @@
--- The outline of a sheet, as a draft.
+-- The outline that lines say, as a draft.
 use Rattle.std.specs.Prelude.{ℕ, ◌-◌, false, List, [], ◌∷◌, map, length, None, ◌==◌, if◌then◌else◌, codes, slice_get, slice_index, unwrap_or}
 use Rattle.std.specs.Option.{option_map}
 use Rattle.std.specs.List.{filter, last_or, range_with_len}
@@ -9,7 +9,11 @@ use Rattle.aso_outline.specs.declared.draft.DraftMember.{DraftMember}
 use Rattle.aso_outline.specs.declared.draft.Aggregate.TheVariants.{All}
 use Rattle.aso_outline.specs.declared.draft.Op.TheVariants.{Plus}
 use Rattle.aso_outline.specs.Members.{Name}
-use Rattle.aso_spec.specs.Sheet.{Member, Sheet}
+
+-- a line of the outline: a dimension is its member of depth 0
+pub record Member : Type 0 where
+  pub depth : ℕ
+  pub name : Name
 
 -- a member stands before the lines of its dimension that follow it; one of depth 0 begins the next dimension
 abbrev pub joined : Member → List (List Member) → List (List Member)

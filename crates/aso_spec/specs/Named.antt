@@ -1,4 +1,4 @@
--- What lists of names stand for in an outline: a cell, or an axis.
+-- What names stand for in an outline: a member, a cell, or an axis.
 use Rattle.std.specs.Prelude.{ℕ, zero, Bool, false, ◌&&◌, List, map, length, Option, Some, None, nat_lt, nat_le, ◌==◌, if◌then◌else◌, slice_get, slice_index, unwrap_or}
 use Rattle.std.specs.Option.{option_map, option_and_then}
 use Rattle.std.specs.List.{filter, filter_map, list_all, range_with_len}
@@ -6,8 +6,16 @@ use Rattle.aso_tree.specs.Trees.{places_of}
 use Rattle.aso_outline.specs.declared.draft.Draft.{Draft}
 use Rattle.aso_outline.specs.declared.seat.Seat.{Seat}
 use Rattle.aso_outline.specs.declared.seat.Seat.TheVariants.{Whole, Inner, Carried}
-use Rattle.aso_outline.specs.Members.{Name, dim_of, is_data_leaf}
+use Rattle.aso_outline.specs.Members.{Name, dim_at, dim_of, is_data_leaf}
 use Rattle.aso_outline.specs.Ranks.{named, is_of_dim}
+
+-- a dimension's own member
+abbrev pub own_seat : Draft → ℕ → Seat
+own_seat o d = if nat_lt 1 (length (dim_at o d).hiers) then Whole d else Inner d 0 0
+
+-- the member of a name that there is
+abbrev pub seat_of : Draft → Name → Seat
+seat_of o name = unwrap_or (named o name) (Whole 0)
 
 -- a test of the member of a name
 abbrev pub names_one : (Seat → Bool) → Draft → Name → Bool

@@ -1,9 +1,9 @@
 -- What a catalog's public words give for the images of its device.
-use Rattle.std.proofs.Common.{◌≡◌, ◌⊎◌, inl, inr, ⊎_elim, ℕ, ◌-◌, ◌<◌, ◌≤◌, true, false, List, Option, Some, None, sym, refl, ◌∙◌, ap, subst, arith, true≢false}
-use Rattle.std.specs.Prelude.{IsSome, is_some}
+use Rattle.std.proofs.Common.{◌≡◌, ◌⊎◌, inl, inr, ⊎_elim, ℕ, ◌-◌, ◌<◌, ◌≤◌, List, Option, Some, None, sym, refl, subst, arith, true≢false}
+use Rattle.std.specs.Prelude.{IsSome}
 use Rattle.aso_disk.specs.Slots.{LeavesOnly, Runs, Still}
 use Rattle.aso_catalog.specs.Image.{FromSync, OpensWith, area, body_of, layout_of}
-use Rattle.aso_catalog.specs.View.{HasRecord, IsBefore, IsInDoubt, IsSettled, IsTold, KeepsRecord}
+use Rattle.aso_catalog.specs.View.{HasRecord, IsBefore, IsInDoubt, IsSettled, IsTold}
 use Rattle.aso_catalog.specs.declared.catalog.Catalog.{Catalog}
 use Rattle.aso_stage.specs.Opening.{IsOpenedFrom, IsUntouched}
 

@@ -1,17 +1,18 @@
 -- A store's state and its doubt, through the publish of a commit.
-use Rattle.std.proofs.Common.{◌≡◌, ◌⊎◌, inl, inr, ⊎_elim, ◌∙◌, ℕ, List, Option, Some, None, sym, refl}
+use Rattle.std.proofs.Common.{◌⊎◌, inl, inr, ⊎_elim, ◌∙◌, ℕ, List, Some, None, sym}
 use Rattle.aso_catalog.specs.declared.catalog.Catalog.{Catalog}
 use Rattle.aso_catalog.specs.declared.record.Record.{Record}
 use Rattle.aso_catalog.specs.Record.{IsRecord}
 use Rattle.aso_catalog.specs.Image.{OpensWith}
 use Rattle.aso_catalog.specs.View.{HasRecord, IsBefore, IsInDoubt, IsSettled, IsTold, KeepsRecord, NoNewDoubt, TellsAlike, Throughout}
 use Rattle.aso_catalog.proofs.Views.{throughout_weaker}
-use Rattle.aso_stage.specs.Store.{State, recovered}
-use Rattle.aso_stage.specs.Machine.{Held, held}
+use Rattle.aso_machine.specs.State.{State}
+use Rattle.aso_stage.specs.Store.{Stands}
+use Rattle.aso_machine.specs.Machine.{Held, held}
 use Rattle.aso_stage.specs.Images.{Covers, IsImageOf, Records, Recovers}
 use Rattle.aso_stage.proofs.Catalogs.{settled_opens, doubt_opens}
 
-module _ {C : Type 0} {g : _} (old new : Catalog C g) (body : List ℕ) (r : Record) (s : State) (spelled : IsRecord r body) (stands : recovered r ≡ Some s) where
+module _ {C : Type 0} {g : _} (old new : Catalog C g) (body : List ℕ) (r : Record) (s : State) (spelled : IsRecord r body) (stands : Stands r s) where
   records : Records body s
   records = record { r = r; spelled = spelled; stands = stands }
 

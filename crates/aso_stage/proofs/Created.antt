@@ -1,5 +1,5 @@
 -- The images of a store's making.
-use Rattle.std.proofs.Common.{◌≡◌, ◌⊎◌, inl, inr, ⊎_elim, ◌∙◌, ℕ, List, Option, Some, None, sym, refl, ap, subst, arith, ◌≤◌}
+use Rattle.std.proofs.Common.{◌≡◌, ◌⊎◌, inl, inr, ⊎_elim, ◌∙◌, ℕ, List, Some, None, sym, ap, subst, arith}
 use Rattle.std.specs.Prelude.{IsSome, is_some}
 use Rattle.aso_disk.specs.Slots.{Runs, Still}
 use Rattle.aso_outline.specs.declared.draft.Draft.{Draft}
@@ -7,8 +7,8 @@ use Rattle.aso_catalog.specs.declared.catalog.Catalog.{Catalog}
 use Rattle.aso_catalog.specs.Image.{FromSync, OpensWith}
 use Rattle.aso_catalog.specs.View.{HasRecord, IsBefore, IsSettled, IsTold, TellsAlike, Throughout}
 use Rattle.aso_catalog.proofs.Views.{throughout_nothing, throughout_weaker}
-use Rattle.aso_stage.specs.Outlines.{outline_of}
-use Rattle.aso_stage.specs.Store.{new_store}
+use Rattle.aso_stage.specs.Store.{Keeps}
+use Rattle.aso_machine.specs.State.{new_store}
 use Rattle.aso_stage.specs.Images.{HasNoStore, Records}
 use Rattle.aso_stage.specs.Create.{CreateLeaves, IsCreated}
 use Rattle.aso_stage.specs.Opening.{IsOpenedFrom}
@@ -18,9 +18,9 @@ pub nothing_made : {C : Type 0} {g : _} (catalog : Catalog C g) (text : List ℕ
 nothing_made catalog text has settled =
     throughout_weaker catalog catalog (IsBefore catalog) _ (throughout_nothing catalog) (λ c before told. inl (settled_opens catalog None c told has settled before))
 
-module _ {C : Type 0} {g : _} (old new : Catalog C g) (text : List ℕ) (o : Draft) (body : List ℕ) (reads : outline_of text ≡ Some o) (records : Records body (new_store text o)) where
+module _ {C : Type 0} {g : _} (old new : Catalog C g) (text : List ℕ) (o : Draft) (body : List ℕ) (keeps : Keeps text o) (records : Records body (new_store text o)) where
   opened : (c : List ℕ) → OpensWith c (Some body) → IsCreated text c
-  opened c opens = (o, reads, record { body = body; opens = opens; is = records })
+  opened c opens = (o, keeps, record { body = body; opens = opens; is = records })
 
   pub made_images : HasRecord old None → IsSettled old → Throughout old new (λ c. IsBefore old c ⊎ OpensWith c (Some body)) → Throughout old new (λ c. IsTold old → HasNoStore c ⊎ IsCreated text c)
   made_images has settled run =

@@ -1,17 +1,10 @@
-pub mod Lengths
 pub mod Catalogs
-pub mod Outlined
-pub mod Created
+pub mod Standing
 pub mod Covering
+pub mod Created
+pub mod Lengths
 pub mod Reopened
-pub mod Adding
-pub mod Rising
-pub mod Seats
-pub mod FirstLeaves
-pub mod Tuples
-pub mod Changes
-pub mod Kept
-mod Examples
+pub mod Results
+pub mod Sessions
 pub mod Sinks
 pub mod Taking
-pub mod Sessions

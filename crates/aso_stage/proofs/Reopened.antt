@@ -1,13 +1,13 @@
 -- A catalog that was opened with the record of a state, of none, or without a record.
-use Rattle.std.proofs.Common.{◌≡◌, ◌⊎◌, inl, inr, ◌∙◌, ℕ, List, Option, Some, None, sym, refl, ap, subst}
+use Rattle.std.proofs.Common.{◌≡◌, inl, ◌∙◌, ℕ, List, Option, Some, None, ap, subst}
 use Rattle.std.specs.Prelude.{IsSome, is_some}
 use Rattle.aso_catalog.specs.declared.catalog.Catalog.{Catalog}
 use Rattle.aso_catalog.specs.declared.record.Record.{Record}
-use Rattle.aso_catalog.specs.Record.{IsRecord}
-use Rattle.aso_catalog.specs.Image.{FromSync, OpensWith, SomeImage, chosen}
+use Rattle.aso_catalog.specs.Image.{FromSync, OpensWith, SomeImage}
 use Rattle.aso_catalog.specs.View.{HasRecord, IsBefore, IsOpened, IsSettled, IsTold}
-use Rattle.aso_stage.specs.Store.{State, recovered}
-use Rattle.aso_stage.specs.Machine.{Held, held}
+use Rattle.aso_machine.specs.State.{State}
+use Rattle.aso_stage.specs.Store.{Stands, StandsForNone}
+use Rattle.aso_machine.specs.Machine.{held}
 use Rattle.aso_stage.specs.Images.{Covers, HasNoStore, Records, Recovers}
 use Rattle.aso_stage.specs.Opened.{HasNoState}
 use Rattle.aso_stage.proofs.Catalogs.{settled_opens}
@@ -22,10 +22,10 @@ module _ {C : Type 0} {g : _} (start : C) (catalog : Catalog C g) (r : Record) (
   has : HasRecord catalog (Some body)
   has = subst (λ (b : Option (List ℕ)). HasRecord catalog b) opened.has.gives.1 opened.has.holds
 
-  pub no_state : recovered r ≡ None → SomeImage (g.seen start) HasNoState
+  pub no_state : StandsForNone r → SomeImage (g.seen start) HasNoState
   no_state none = record { image = opened.image; is_told = opened.is_told; has = record { body = body; opens = opens; r = r; spelled = opened.has.gives.2; none = none } }
 
-  module _ (s : State) (stands : recovered r ≡ Some s) where
+  module _ (s : State) (stands : Stands r s) where
     records : Records body s
     records = record { r = r; spelled = opened.has.gives.2; stands = stands }
 

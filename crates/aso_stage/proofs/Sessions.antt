@@ -1,40 +1,37 @@
 -- Statements one behind the other.
-use Rattle.std.proofs.Common.{◌≡◌, ◌⊎◌, inl, inr, ◌∙◌, ℕ, suc, ◌+◌, ◌≤◌, List, [], ◌∷◌, ◌++◌, map, length, append_assoc, Option, Some, None, sym, refl, ap, subst, arith}
-use Rattle.std.specs.Prelude.{Result, Ok, Err, min}
-use Rattle.std.specs.List.{flat_map}
+use Rattle.std.proofs.Common.{◌≡◌, ◌∙◌, ℕ, ◌+◌, ◌≤◌, List, [], ◌∷◌, ◌++◌, length, Option, sym, refl, ap, subst, arith}
+use Rattle.std.specs.Prelude.{Ok, Err}
 use Rattle.std.proofs.lemmas.List.{length-map, map-append, append-nil}
 use Rattle.std.proofs.lemmas.Grind.{flat_map-append}
 use Rattle.aso_num.specs.declared.status.Status.{Status}
 use Rattle.aso_num.specs.declared.status.Status.TheVariants.{Done, Usage, Refused, Damaged, Library, Sink, Disk, NoMemory, NoStore, Exists}
-use Rattle.aso_disk.specs.Causes.{Rose}
 use Rattle.aso_disk.specs.Texts.{Appends, AppendsFront}
 use Rattle.aso_disk.specs.declared.trouble.Trouble.{Trouble}
-use Rattle.aso_spec.specs.Script.{Line}
+use Rattle.aso_script.specs.Script.{Line}
 use Rattle.aso_spec.specs.Grid.{end_line}
 use Rattle.aso_catalog.specs.declared.catalog.Catalog.{Catalog}
 use Rattle.aso_catalog.specs.View.{IsTold, TellsAlike, Throughout}
 use Rattle.aso_catalog.proofs.Views.{throughout_nothing}
 use Rattle.aso_stage.specs.declared.store.Store.{Store}
-use Rattle.aso_stage.specs.Machine.{Held}
+use Rattle.aso_machine.specs.Machine.{Held}
 use Rattle.aso_stage.specs.Images.{IsImageOf}
 use Rattle.aso_stage.specs.Session.{Entry, Now, Step, Steps, first_fault, replies, status_of}
-use Rattle.aso_stage.specs.Taking.{Holds, Replies, TakesLine}
-use Rattle.aso_stage.specs.Runs.{PutsRun, Ran, SoFar, closing, left_of, lines_of, now_of, run_text}
+use Rattle.aso_stage.specs.Taking.{Holds, Replies, Taken}
+use Rattle.aso_stage.specs.Runs.{Ran, SoFar, closing, left_of, lines_of, now_of}
 use Rattle.aso_stage.proofs.Sinks.{appends_then, front_longer, front_then}
 
 -- ---- one step
 
-abbrev pub entry_of : {C : Type 0} {g : _} (old new : Catalog C g) (store : Store) (h : Held) (i : ℕ) (line : Line) (reply : List ℕ) (status : Status) → TakesLine old new store h i line reply status → Entry
-entry_of old new store h i line reply status takes = record { line = line; statement = takes.statement; reply = reply; status = status; after = now_of new takes.taken.after }
+abbrev pub entry_of : {C : Type 0} {g : _} (old new : Catalog C g) (store : Store) (h : Held) (i : ℕ) (line : Line) (reply : List ℕ) (status : Status) → Taken old new store h i line reply status → Entry
+entry_of old new store h i line reply status took = record { line = line; reply = reply; status = status; after = now_of new took.after }
 
-pub step_of : {C : Type 0} {g : _} (old new : Catalog C g) (store : Store) (h : Held) (i : ℕ) (line : Line) (reply : List ℕ) (status : Status) (takes : TakesLine old new store h i line reply status) → g.faults old.slots ≤ g.faults new.slots
-    → Step (IsTold old) (left_of new) i (now_of old h) (entry_of old new store h i line reply status takes)
-step_of {C} {g} old new store h i line reply status takes later = record {
-  reads = takes.reads;
-  outcome = takes.taken.outcome;
+pub step_of : {C : Type 0} {g : _} (old new : Catalog C g) (store : Store) (h : Held) (i : ℕ) (line : Line) (reply : List ℕ) (status : Status) (took : Taken old new store h i line reply status) → g.faults old.slots ≤ g.faults new.slots
+    → Step (IsTold old) (left_of new) i (now_of old h) (entry_of old new store h i line reply status took)
+step_of {C} {g} old new store h i line reply status took later = record {
+  outcome = took.outcome;
   later = later;
-  time = takes.taken.images.later;
-  images = λ told k c low high is. takes.taken.images.each k c low high is told;
+  time = took.images.later;
+  images = λ told k c low high is. took.images.each k c low high is told;
 }
 
 -- ---- several
@@ -54,7 +51,6 @@ steps_past told tells left leaves i now [] after t past is = is
 steps_past told tells left leaves i now (e ∷ es) after t past is =
     let rest : e.after.moment ≤ after.moment = steps_time told left (i + 1) e.after es after is.1 in (
       record {
-        reads = is.0.reads;
         outcome = is.0.outcome;
         later = is.0.later;
         time = is.0.time;
@@ -116,15 +112,15 @@ module _ {C : Type 0} {g : _} (start : Catalog C g) (h : Held) (before : Option 
     count_is : i ≡ 1 + length so.entries
     count_is = at ∙ ap (λ (ls : List Line). 1 + length ls) (sym so.all) ∙ ap (λ n. 1 + n) (length-map so.entries (λ (e : Entry). e.line))
 
-    module _ (reply : List ℕ) (ended : Status) (takes : TakesLine mid new next so.last i line reply ended) where
+    module _ (reply : List ℕ) (ended : Status) (took : Taken mid new next so.last i line reply ended) where
       abbrev one : Entry
-      one = entry_of mid new next so.last i line reply ended takes
+      one = entry_of mid new next so.last i line reply ended took
 
       steps_now : Steps (IsTold start) (left_of new) 1 (now_of start h) (so.entries ++ one ∷ []) one.after
       steps_now =
           let front = steps_past (IsTold start) (IsTold start) (left_of mid) (left_of new) 1 (now_of start h) so.entries (now_of mid so.last) (λ t. t) (λ k c low is. past.past k c low is) so.steps in
-          let step = step_of mid new next so.last i line reply ended takes later in
-          let here : Step (IsTold start) (left_of new) i (now_of mid so.last) one = record { reads = step.reads; outcome = step.outcome; later = step.later; time = step.time; images = λ t. step.images (told_then t) } in
+          let step = step_of mid new next so.last i line reply ended took later in
+          let here : Step (IsTold start) (left_of new) i (now_of mid so.last) one = record { outcome = step.outcome; later = step.later; time = step.time; images = λ t. step.images (told_then t) } in
           steps_then (IsTold start) (left_of new) 1 i (now_of start h) so.entries (now_of mid so.last) one count_is front here
 
       lines_now : lines_of (so.entries ++ one ∷ []) ≡ taken ++ line ∷ []
@@ -132,28 +128,28 @@ module _ {C : Type 0} {g : _} (start : Catalog C g) (h : Held) (before : Option 
 
     pub one_more : (told_status : Status) → Replies mid new next so.last i line now after (Ok told_status) → SoFar start new next h (taken ++ line ∷ []) before after (first_fault status told_status)
     one_more told_status r = record {
-      entries = so.entries ++ one r.reply r.status r.takes ∷ [];
-      all = lines_now r.reply r.status r.takes;
-      last = r.takes.taken.after;
-      steps = steps_now r.reply r.status r.takes;
-      holds = r.takes.taken.holds;
-      puts = subst (λ (l : List ℕ). Appends before after l) (sym (replies_then so.entries (one r.reply r.status r.takes))) (appends_then before now after (replies so.entries) r.reply so.puts r.puts.1);
-      is = ap (λ (x : Status). first_fault x told_status) so.is ∙ ap (first_fault (status_of so.entries)) r.puts.0 ∙ sym (status_then so.entries (one r.reply r.status r.takes));
+      entries = so.entries ++ one r.reply r.status r.taken ∷ [];
+      all = lines_now r.reply r.status r.taken;
+      last = r.taken.after;
+      steps = steps_now r.reply r.status r.taken;
+      holds = r.taken.holds;
+      puts = subst (λ (l : List ℕ). Appends before after l) (sym (replies_then so.entries (one r.reply r.status r.taken))) (appends_then before now after (replies so.entries) r.reply so.puts r.puts.1);
+      is = ap (λ (x : Status). first_fault x told_status) so.is ∙ ap (first_fault (status_of so.entries)) r.puts.0 ∙ sym (status_then so.entries (one r.reply r.status r.taken));
     }
 
     pub cut_at : (rest lines : List Line) (trouble : Trouble) → (taken ++ line ∷ []) ++ rest ≡ lines → TellsAlike start new → Replies mid new next so.last i line now after (Err trouble)
         → Ran (IsTold start) (left_of new) lines (now_of start h) (g.moment new.slots) (g.faults new.slots) before after (Err trouble)
     cut_at rest lines trouble all tells r =
-        let es : List Entry = so.entries ++ one r.reply r.status r.takes ∷ [] in
+        let es : List Entry = so.entries ++ one r.reply r.status r.taken ∷ [] in
         let front : AppendsFront before after (replies so.entries ++ r.reply) = front_then before now after (replies so.entries) r.reply so.puts r.puts in
-        let here : AppendsFront before after (replies es) = subst (λ (l : List ℕ). AppendsFront before after l) (sym (replies_then so.entries (one r.reply r.status r.takes))) front in
+        let here : AppendsFront before after (replies es) = subst (λ (l : List ℕ). AppendsFront before after l) (sym (replies_then so.entries (one r.reply r.status r.taken))) front in
         record {
           entries = es;
           rest = rest;
-          all = ap (λ (ls : List Line). ls ++ rest) (lines_now r.reply r.status r.takes) ∙ all;
-          last = r.takes.taken.after;
-          steps = steps_now r.reply r.status r.takes;
-          exit = λ t c is. r.takes.taken.holds.covers.images (tells ∙ t) c ((throughout_nothing new).each (g.moment new.slots) c (omega arith) (omega arith) is);
+          all = ap (λ (ls : List Line). ls ++ rest) (lines_now r.reply r.status r.taken) ∙ all;
+          last = r.taken.after;
+          steps = steps_now r.reply r.status r.taken;
+          exit = λ t c is. r.taken.holds.covers.images (tells ∙ t) c ((throughout_nothing new).each (g.moment new.slots) c (omega arith) (omega arith) is);
           puts = front_longer before after (replies es) (closing (length es) rest) here;
         }
 

@@ -1,5 +1,5 @@
 -- Pieces that are put one behind the other.
-use Rattle.std.proofs.Common.{◌≡◌, ◌⊎◌, ⊎_elim, ◌∙◌, ℕ, ◌+◌, ◌≤◌, List, [], ◌++◌, length, take, append_assoc, Option, Some, None, sym, refl, ap, subst, arith}
+use Rattle.std.proofs.Common.{◌⊎◌, ⊎_elim, ◌∙◌, ℕ, ◌+◌, ◌≤◌, List, [], ◌++◌, length, take, append_assoc, Option, Some, None, sym, refl, ap, subst, arith}
 use Rattle.std.specs.Prelude.{Result, Ok, Err}
 use Rattle.std.proofs.Math.Seq.{take-append_seam, take-append-add}
 use Rattle.std.proofs.lemmas.List.{append-nil, take-append-le, take_all}

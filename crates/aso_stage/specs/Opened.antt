@@ -1,11 +1,11 @@
 -- What the opening of a store answers where there is none to open.
-use Rattle.std.specs.Prelude.{◌≡◌, ◌⊎◌, ℕ, List, Option, Some, None, codes}
+use Rattle.std.specs.Prelude.{◌≡◌, ◌⊎◌, ℕ, List, Option, Some, codes}
 use Rattle.aso_num.specs.declared.status.Status.{Status}
 use Rattle.aso_num.specs.declared.status.Status.TheVariants.{Damaged, NoStore}
 use Rattle.aso_catalog.specs.declared.record.Record.{Record}
 use Rattle.aso_catalog.specs.Record.{IsRecord}
 use Rattle.aso_catalog.specs.Image.{OpensWith, SomeImage}
-use Rattle.aso_stage.specs.Store.{recovered}
+use Rattle.aso_stage.specs.Store.{StandsForNone}
 use Rattle.aso_stage.specs.Images.{HasNoStore}
 use Rattle.aso_stage.specs.Opening.{Unopened}
 
@@ -15,7 +15,7 @@ pub record HasNoState (image : List ℕ) : Type 0 where
   pub opens : OpensWith image (Some body)
   pub r : Record
   pub spelled : IsRecord r body
-  pub none : recovered r ≡ None
+  pub none : StandsForNone r
 
 -- What is printed where no store is opened, on a device that tells these bytes, where it tells any. `failed` is that the
 -- device failed meanwhile.

@@ -5,12 +5,12 @@ use Rattle.aso_num.specs.declared.status.Status.TheVariants.{Sink, NoMemory}
 use Rattle.aso_disk.specs.Texts.{Appends, AppendsFront}
 use Rattle.aso_disk.specs.declared.trouble.Trouble.{Trouble}
 use Rattle.aso_disk.specs.declared.trouble.Trouble.TheVariants.{Failed, NoMemory as OutOfMemory}
-use Rattle.aso_spec.specs.Script.{Line}
+use Rattle.aso_script.specs.Script.{Line}
 use Rattle.aso_spec.specs.Grid.{end_line}
 use Rattle.aso_catalog.specs.declared.catalog.Catalog.{Catalog}
 use Rattle.aso_catalog.specs.View.{IsTold}
 use Rattle.aso_stage.specs.declared.store.Store.{Store}
-use Rattle.aso_stage.specs.Machine.{Held}
+use Rattle.aso_machine.specs.Machine.{Held}
 use Rattle.aso_stage.specs.Images.{IsImageOf}
 use Rattle.aso_stage.specs.Session.{Entry, Now, Steps, replies, status_of}
 use Rattle.aso_stage.specs.Taking.{Holds}

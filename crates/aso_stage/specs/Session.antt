@@ -1,18 +1,12 @@
 -- A run of statements: their replies, and what a crash leaves at each moment.
-use Rattle.std.specs.Prelude.{◌≡◌, ◌⊎◌, ◌+◌, ◌≤◌, ℕ, List, [], ◌∷◌, Option, Some, None}
+use Rattle.std.specs.Prelude.{◌≡◌, ◌⊎◌, ◌+◌, ◌≤◌, ℕ, List, [], ◌∷◌}
 use Rattle.std.specs.List.{flat_map}
 use Rattle.aso_num.specs.declared.status.Status.{Status}
 use Rattle.aso_num.specs.declared.status.Status.TheVariants.{Done}
 use Rattle.aso_disk.specs.Causes.{Rose}
-use Rattle.aso_spec.specs.Script.{Statement, Line, Spells}
-use Rattle.aso_stage.specs.Store.{State, committed}
-use Rattle.aso_stage.specs.Machine.{Held, Said, Refuses, Shows, Changes, Outcome, said}
-use Rattle.aso_stage.specs.Images.{IsImageOf, RecoversTo}
-
--- the statement that a line spells, if it spells one
-abbrev pub IsRead : List ℕ → Option Statement → Type 0
-IsRead line None = (s : Statement) → Spells line s → ⊥
-IsRead line (Some s) = Spells line s
+use Rattle.aso_script.specs.Script.{Line}
+use Rattle.aso_machine.specs.Machine.{Held, Outcome}
+use Rattle.aso_stage.specs.Images.{IsImageOf, Publishes}
 
 -- a store at a moment of its device, which has failed so often
 pub record Now : Type 0 where
@@ -23,25 +17,18 @@ pub record Now : Type 0 where
 -- a line of the script, its reply, and what is so afterwards
 pub record Entry : Type 0 where
   pub line : Line
-  pub statement : Option Statement
   pub reply : List ℕ
   pub status : Status
   pub after : Now
 
--- what a publish on the way to a statement's reply would leave
-abbrev pub under_way : Said → State → Option State
-under_way (Changes cells) s = Some (committed s cells)
-under_way _ s = None
-
 -- `told` is that the device tells its bytes, and `left` what a crash at a moment may leave. At each moment of a
 -- statement a crash leaves the state before it, a doubt that stood, or what its publish leaves.
 pub record Step (told : Type 0) (left : ℕ → List ℕ → Type 0) (i : ℕ) (now : Now) (e : Entry) : Type 0 where
-  pub reads : IsRead e.line.bytes e.statement
-  pub outcome : Outcome (Rose now.faults e.after.faults) now.held i e.line.at e.statement e.reply e.status e.after.held
+  pub outcome : Outcome (Rose now.faults e.after.faults) now.held i e.line e.reply e.status e.after.held
   pub later : now.faults ≤ e.after.faults
   pub time : now.moment ≤ e.after.moment
   pub images : told → (k : ℕ) (c : List ℕ) → now.moment ≤ k → k ≤ e.after.moment → left k c
-      → IsImageOf now.held c ⊎ RecoversTo (under_way (said now.held.state e.line.at e.statement) now.held.state) c
+      → IsImageOf now.held c ⊎ Publishes now.held.state e.line c
 
 -- the statements from number i on, one behind the other
 abbrev pub Steps : Type 0 → (ℕ → List ℕ → Type 0) → ℕ → Now → List Entry → Now → Type 0

@@ -1,58 +1,24 @@
--- The state of a store, and the record that stands for it.
-use Rattle.std.specs.Prelude.{◌≡◌, ℕ, ◌+◌, ◌^◌, Bool, true, false, ◌&&◌, List, [], ◌∷◌, map, length, Option, Some, None, ℤ, unsigned_abs, nat_lt, ◌==◌, if◌then◌else◌}
-use Rattle.std.specs.Option.{option_and_then}
-use Rattle.std.specs.List.{list_all}
+-- The record that stands for the state of a store.
+use Rattle.std.specs.Prelude.{◌≡◌, ◌≤◌, ℕ, true, List, length}
 use Rattle.aso_outline.specs.declared.draft.Draft.{Draft}
-use Rattle.aso_tree.specs.Trees.{places_of}
-use Rattle.aso_outline.specs.Members.{data_leaves, dim_at}
-use Rattle.aso_spec.specs.Cells.{Key, Cells}
-use Rattle.aso_catalog.specs.declared.record.LeafCell.{LeafCell}
+use Rattle.aso_outtext.specs.Answers.{Gives}
 use Rattle.aso_catalog.specs.declared.record.Record.{Record}
-use Rattle.aso_stage.specs.Outlines.{outline_of}
+use Rattle.aso_machine.specs.State.{State, fits_outline, state_with}
 
-pub record State : Type 0 where
-  -- the outline's text, and what it spells
-  pub text : List ℕ
-  pub outline : Draft
-  pub cells : Cells
-  -- how many commits it has seen, and how many publishes
-  pub commit : ℕ
-  pub layout : ℕ
+-- how many bytes the text of an outline may have that is kept
+abbrev pub longest_text : ℕ
+longest_text = 50000
 
--- a store as it is created
-abbrev pub new_store : List ℕ → Draft → State
-new_store text o = record { text = text; outline = o; cells = []; commit = 0; layout = 1 }
+-- The text gives this outline, and is no longer than one that is kept.
+pub record Keeps (text : List ℕ) (o : Draft) : Type 0 where
+  pub gives : Gives text o
+  pub short : length text ≤ longest_text
 
--- the state after a commit that makes these its cells
-abbrev pub committed : State → Cells → State
-committed s cells = record { text = s.text; outline = s.outline; cells = cells; commit = s.commit + 1; layout = s.layout + 1 }
+-- The record stands for this state: its text gives the outline, and its cells fit it.
+pub record Stands (r : Record) (s : State) : Type 0 where
+  pub keeps : Keeps r.outline s.outline
+  pub fits : fits_outline r s.outline ≡ true
+  pub is : s ≡ state_with r s.outline
 
--- ---- records
-
-abbrev pub entry : LeafCell → Key × ℤ
-entry c = (c.leaves, c.amount)
-
--- for each dimension how many data leaves it has
-abbrev pub leaf_counts : Draft → List ℕ
-leaf_counts o = map (λ d. length (data_leaves (dim_at o d))) (places_of o.dims)
-
--- a leaf for each count, and below it
-abbrev pub are_leaves : List ℕ → List ℕ → Bool
-are_leaves [] [] = true
-are_leaves (count ∷ counts) (leaf ∷ leaves) = nat_lt leaf count && are_leaves counts leaves
-are_leaves _ _ = false
-
--- a data leaf of each dimension, and an amount in range
-abbrev pub is_cell_of : List ℕ → Key × ℤ → Bool
-is_cell_of counts c = are_leaves counts c.0 && nat_lt (unsigned_abs c.1) (10 ^ 18)
-
--- the record's cells are cells of the outline
-abbrev pub fits_outline : Record → Draft → Bool
-fits_outline r o = (r.dimensions == length o.dims) && list_all (λ c. is_cell_of (leaf_counts o) (entry c)) r.cells
-
-abbrev pub state_with : Record → Draft → State
-state_with r o = record { text = r.outline; outline = o; cells = map entry r.cells; commit = r.commit; layout = r.layout }
-
--- The state that a record stands for: its outline's text reads, and its cells fit the outline.
-unfoldable pub recovered : Record → Option State
-recovered r = option_and_then (λ o. if fits_outline r o then Some (state_with r o) else None) (outline_of r.outline)
+abbrev pub StandsForNone : Record → Type 0
+StandsForNone r = (s : State) → Stands r s → ⊥

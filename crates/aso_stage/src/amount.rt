@@ -1,9 +1,11 @@
 // What a commit of an amount publishes.
-ghost use Rattle.std.specs.Prelude.{◌≡◌, ◌+◌, ◌-◌, ◌≤◌, ◌<◌, ◌^◌, Some, true, length, map, nat_lt, unsigned_abs, IfOk};
+ghost use Rattle.std.specs.Prelude.{◌≡◌, ◌+◌, ◌-◌, ◌≤◌, ◌<◌, ◌^◌, true, length, map, nat_lt, unsigned_abs, IfOk};
 ghost use Rattle.aso_catalog.specs.Record.{IsRecord, IsStorable};
 ghost use Rattle.aso_spec.specs.Cells.{add_at};
-ghost use Rattle.aso_stage.specs.CellSteps.{sum_in};
-ghost use Rattle.aso_stage.specs.Store.{are_leaves, entry, leaf_counts, recovered, state_with};
+ghost use Rattle.aso_machine.specs.CellSteps.{sum_in};
+ghost use Rattle.aso_cellnames.specs.Leaves.{are_leaves, leaf_counts};
+ghost use Rattle.aso_machine.specs.State.{entry, state_with};
+ghost use Rattle.aso_stage.specs.Store.{Stands};
 ghost use Rattle.aso_stage.specs.Stores.{IsStore, added_state};
 
 use crate::bodies::body_of;
@@ -31,7 +33,7 @@ pub fn next_body(
     ensures short { IfOk result (λ p. length p.1.items ≤ 131067) }
     ensures layout { IfOk result (λ p. p.0.layout ≡ store.now.saved.layout + 1) }
     ensures state { IfOk result (λ p. state_with p.0 store.now.outline ≡ added_state store.now key.now amount) }
-    ensures stands { IfOk result (λ p. recovered p.0 ≡ Some (state_with p.0 store.now.outline)) }
+    ensures stands { IfOk result (λ p. Stands p.0 (state_with p.0 store.now.outline)) }
 {
     let next = next_record(alloc, store, key, amount)?;
     let body = body_of(alloc, &next)?;

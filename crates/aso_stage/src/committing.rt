@@ -4,8 +4,9 @@ ghost use Rattle.aso_disk.specs.Causes.{Rose};
 ghost use Rattle.aso_catalog.specs.Record.{IsRecord};
 ghost use Rattle.aso_catalog.specs.View.{HasBegun, IsTold, TellsAlike, Throughout, current_layout, device_of, opening};
 ghost use Rattle.aso_stage.specs.Images.{Covers, IsImageOf, Recovers};
-ghost use Rattle.aso_stage.specs.Machine.{Held, held};
-ghost use Rattle.aso_stage.specs.Store.{recovered, state_with};
+ghost use Rattle.aso_machine.specs.Machine.{Held, held};
+ghost use Rattle.aso_stage.specs.Store.{Stands};
+ghost use Rattle.aso_machine.specs.State.{state_with};
 
 use crate::store::Store;
 use aso_catalog::{Catalog, PublishFault, Record};
@@ -22,7 +23,7 @@ pub fn publish_next<C: Slots>(
     requires short { length body.now ≤ 131067 }
     requires layout { next.layout ≡ current_layout catalog.old + 1 }
     requires room { current_layout catalog.old < 2 ^ 64 - 1 }
-    requires stands { recovered next ≡ Some (state_with next store.old.outline) }
+    requires stands { Stands next (state_with next store.old.outline) }
     ensures is { OnOk result ((store.new.saved ≡ next) × (store.new.outline ≡ store.old.outline)) }
     ensures stays { OnErr result (store.new ≡ store.old) }
     ensures published { OnOk result ((h : Held) → Covers catalog.old h → Covers catalog.new (held (state_with next store.old.outline) None)) }

@@ -1,28 +1,32 @@
 // The making of a store.
-ghost use Rattle.std.specs.Prelude.{◌≡◌, ◌⊎◌, ◌≤◌, ℕ, List as Bytes, Some, None, IsSome, is_some, IfOk};
+ghost use Rattle.std.specs.Prelude.{◌≡◌, ◌⊎◌, ◌≤◌, ◌++◌, ℕ, List as Bytes, None, true, codes, IsSome, is_some, IfOk};
 ghost use Rattle.std.specs.String.{string_bytes};
-ghost use Rattle.aso_num.specs.declared.status.Status.TheVariants.{Done};
+ghost use Rattle.aso_num.specs.declared.status.Status.TheVariants.{Done, Refused};
+ghost use Rattle.aso_outtext.specs.Texts.{fault_text};
+ghost use Rattle.aso_spec.specs.Grid.{error_line};
+ghost use Rattle.std.specs.Fmt.{decimal};
 ghost use Rattle.aso_disk.specs.Causes.{Rose};
 ghost use Rattle.aso_catalog.specs.Image.{IsBody};
 ghost use Rattle.aso_catalog.specs.View.{HasRecord, IsBefore, IsSettled, IsTold, TellsAlike, Throughout, current_layout, device_of};
-ghost use Rattle.aso_stage.specs.Create.{CreateAnswer, CreateLeaves, IsCreated, IsFirstAnswer, created_line};
+ghost use Rattle.aso_stage.specs.Create.{CreateAnswer, CreateLeaves, IsCreated, IsFirstAnswer, created_line, is_of_text};
 ghost use Rattle.aso_stage.specs.Images.{HasNoStore, Records};
-ghost use Rattle.aso_stage.specs.Outlines.{outline_of};
-ghost use Rattle.aso_stage.specs.Store.{new_store};
+ghost use Rattle.aso_stage.specs.Store.{Keeps};
+ghost use Rattle.aso_machine.specs.State.{new_store};
 
 use crate::answer::Answer;
 use crate::bits::key_bits;
 use crate::bodies::body_of;
 use crate::opening::{answer_of, refused};
-use crate::outlines::read_outline;
+use crate::replying::error_line as error_text;
+use crate::store::LONGEST_TEXT;
 use aso_catalog::{Catalog, Record};
 use aso_disk::Slots;
 use aso_num::{List, NoMemory, Status};
+use aso_outjson::JsonFault;
 use aso_outline::Outline;
+use aso_outtext::{TextFault, read};
 use std::alloc::{AllocError, Global};
 use std::fmt::Write;
-
-const NOT_PLAIN: &[u8] = b"ERROR 0 201 syntax: byte 0\n";
 
 const FAULT: &[u8] = b"ERROR 0 301 disk fault\n";
 
@@ -48,7 +52,7 @@ fn created_line(alloc: Global, outline: &Outline) -> Result<String, AllocError>
 
 // The record of a store without cells.
 fn first_body(alloc: Global, text: &[u8], outline: &Outline) -> Result<Vec<u8>, NoMemory>
-    requires { outline_of text.now ≡ Some outline.now }
+    requires { Keeps text.now outline.now }
     ensures body { IfOk result (λ body. IsBody 1 body.items) }
     ensures records { IfOk result (λ body. Records body.items (new_store text.now outline.now)) }
 {
@@ -70,7 +74,7 @@ fn publish_first<C: Slots>(
     text: &[u8],
     outline: &Outline,
 ) -> Result<Answer, NoMemory>
-    requires outline { outline_of text.now ≡ Some outline.now }
+    requires outline { Keeps text.now outline.now }
     requires record { HasRecord catalog.old None }
     requires settled { IsSettled catalog.old }
     requires layout { current_layout catalog.old ≡ 0 }
@@ -91,6 +95,54 @@ fn publish_first<C: Slots>(
     }
 }
 
+// The answer of a refusal, before anything is opened.
+fn refusal_of(alloc: Global, text: &[u8]) -> Result<Answer, NoMemory>
+    ensures { IfOk result (λ a. (a.status ≡ Refused) × (a.text.items ≡ error_line 0 text.now)) }
+{
+    Ok(Answer {
+        status: Status::Refused,
+        text: error_text(alloc, 0, text)?,
+    })
+}
+
+fn too_long_line(alloc: Global, length: usize) -> Result<String, AllocError>
+    ensures { IfOk result (λ line. string_bytes line ≡ codes "217 outline: too long " ++ decimal length) }
+{
+    format!(in alloc; "217 outline: too long {length}")
+}
+
+// The answer to a text that is longer than one that is kept.
+fn too_long(alloc: Global, length: usize) -> Result<Answer, NoMemory>
+    ensures { IfOk result (λ a. (a.status ≡ Refused) × (a.text.items ≡ error_line 0 (codes "217 outline: too long " ++ decimal length))) }
+{
+    let line = too_long_line(alloc, length)?;
+    refusal_of(alloc, line.as_bytes())
+}
+
+// The text is at fault, and memory isn't.
+fn is_of_text(fault: &TextFault) -> bool
+    ensures { result ≡ is_of_text fault.now }
+{
+    match fault {
+        TextFault::Line { .. } => true,
+        TextFault::Refused { .. } => true,
+        TextFault::Json(JsonFault::NoMemory(_)) => false,
+        TextFault::Json(_) => true,
+        TextFault::NoMemory(_) => false,
+    }
+}
+
+// The answer to a text that gives no outline.
+fn refused_text(alloc: Global, fault: &TextFault) -> Result<Answer, NoMemory>
+    ensures { IfOk result (λ a. (is_of_text fault.now ≡ true) × (a.status ≡ Refused) × (a.text.items ≡ error_line 0 (fault_text fault.now))) }
+{
+    if !is_of_text(fault) {
+        return Err(NoMemory);
+    }
+    let text = fault.text(alloc)?;
+    refusal_of(alloc, &text)
+}
+
 // Makes the store on a device.
 fn make<C: Slots>(
     alloc: Global,
@@ -98,7 +150,7 @@ fn make<C: Slots>(
     text: &[u8],
     outline: &Outline,
 ) -> (C, Result<Answer, NoMemory>)
-    requires outline { outline_of text.now ≡ Some outline.now }
+    requires outline { Keeps text.now outline.now }
     ensures answer { IfOk result.1 (λ a. CreateAnswer (Rose (C.faults slots) (C.faults result.0)) (C.seen slots) text.now a.status a.text.items) }
     ensures crash { CreateLeaves C.moment C.left (IsSome (C.seen slots)) text.now slots result.0 }
     ensures created { IfOk result.1 (λ a. a.status ≡ Done → IsSome (C.seen slots) → (image : Bytes ℕ) → C.left result.0 (C.moment result.0) image → IsCreated text.now image) }
@@ -119,7 +171,8 @@ fn make<C: Slots>(
     }
 }
 
-/// Makes a store of an outline's text on a device, with no cells and at commit 0. It hands the device back.
+/// Makes a store of an outline's text on a device, with no cells and at commit 0: lines or JSON, of at most 50,000 bytes. It hands the
+/// device back. A text that gives no outline, or is longer, is refused before the device is touched.
 pub fn create<C: Slots>(alloc: Global, slots: C, text: &[u8]) -> (C, Result<Answer, NoMemory>)
     ensures answer { IfOk result.1 (λ a. CreateAnswer (Rose (C.faults slots) (C.faults result.0)) (C.seen slots) text.now a.status a.text.items) }
 
@@ -131,9 +184,14 @@ pub fn create<C: Slots>(alloc: Global, slots: C, text: &[u8]) -> (C, Result<Answ
     ensures same { C.same slots result.0 }
     ensures later { C.faults slots ≤ C.faults result.0 }
 {
-    match read_outline(alloc, text) {
-        Ok(Some(outline)) => make(alloc, slots, text, &outline),
-        Ok(None) => (slots, answer_of(alloc, Status::Refused, NOT_PLAIN)),
-        Err(fault) => (slots, Err(fault)),
+    match read(alloc, text) {
+        Ok(outline) => {
+            if text.len() > LONGEST_TEXT {
+                (slots, too_long(alloc, text.len()))
+            } else {
+                make(alloc, slots, text, &outline)
+            }
+        }
+        Err(fault) => (slots, refused_text(alloc, &fault)),
     }
 }

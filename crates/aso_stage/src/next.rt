@@ -1,14 +1,16 @@
 // The record of a store once a cell is changed.
-ghost use Rattle.std.specs.Prelude.{◌≡◌, ◌+◌, ◌-◌, ◌<◌, ◌^◌, Some, true, length, map, nat_lt, unsigned_abs, IfOk};
+ghost use Rattle.std.specs.Prelude.{◌≡◌, ◌+◌, ◌-◌, ◌<◌, ◌^◌, true, length, map, nat_lt, unsigned_abs, IfOk};
 ghost use Rattle.aso_catalog.specs.Record.{IsStorable};
 ghost use Rattle.aso_spec.specs.Cells.{add_at};
-ghost use Rattle.aso_stage.specs.CellSteps.{sum_in};
-ghost use Rattle.aso_stage.specs.Store.{are_leaves, committed, entry, leaf_counts, recovered};
+ghost use Rattle.aso_machine.specs.CellSteps.{sum_in};
+ghost use Rattle.aso_cellnames.specs.Leaves.{are_leaves, leaf_counts};
+ghost use Rattle.aso_machine.specs.State.{committed, entry};
+ghost use Rattle.aso_stage.specs.Store.{Stands};
 ghost use Rattle.aso_stage.specs.Stores.{IsStore, state_of};
 
-use crate::cells::add_cell;
 use crate::store::Store;
 use aso_catalog::Record;
+use aso_machine::add_cell;
 use aso_num::{List, NoMemory};
 use std::alloc::Global;
 
@@ -27,7 +29,7 @@ pub fn next_record(
     requires sum { nat_lt (unsigned_abs (sum_in key.now amount store.now.saved.cells)) (10 ^ 18) ≡ true }
     requires storable { IsStorable store.now.saved }
     requires few { length (add_at key.now amount (map entry store.now.saved.cells)) < 2 ^ 32 }
-    ensures stands { IfOk result (λ r. recovered r ≡ Some (committed (state_of store.now) (add_at key.now amount (map entry store.now.saved.cells)))) }
+    ensures stands { IfOk result (λ r. Stands r (committed (state_of store.now) (add_at key.now amount (map entry store.now.saved.cells)))) }
     ensures storable { IfOk result IsStorable }
     ensures layout { IfOk result (λ r. r.layout ≡ store.now.saved.layout + 1) }
     ensures outline { IfOk result (λ r. r.outline ≡ store.now.saved.outline) }

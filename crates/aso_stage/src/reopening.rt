@@ -6,7 +6,7 @@ ghost use Rattle.aso_catalog.specs.Image.{FromSync, SomeImage};
 ghost use Rattle.aso_catalog.specs.Record.{IsStorable};
 ghost use Rattle.aso_catalog.specs.View.{current_layout, device_of};
 ghost use Rattle.aso_stage.specs.Images.{Covers, Recovers};
-ghost use Rattle.aso_stage.specs.Machine.{held};
+ghost use Rattle.aso_machine.specs.Machine.{held};
 ghost use Rattle.aso_stage.specs.Opened.{OpenAnswer};
 ghost use Rattle.aso_stage.specs.Opening.{IsUntouched};
 ghost use Rattle.aso_stage.specs.Stores.{IsStore, state_of};

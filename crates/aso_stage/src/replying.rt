@@ -5,10 +5,9 @@ ghost use Rattle.std.specs.String.{string_bytes};
 ghost use Rattle.aso_disk.specs.Causes.{HasCause};
 ghost use Rattle.aso_disk.specs.Texts.{Puts};
 ghost use Rattle.aso_spec.specs.Grid.{end_line, error_line, grid_head};
-ghost use Rattle.aso_stage.specs.Machine.{doubt_text, ok_line};
+ghost use Rattle.aso_machine.specs.Machine.{doubt_text, ok_line};
 
 use aso_disk::{Sink, Trouble};
-use aso_sheet::grid_head;
 use itoa::Buffer;
 use std::alloc::{AllocError, Global};
 use std::fmt::Write;
@@ -51,13 +50,36 @@ pub fn doubt_line(alloc: Global, number: u64, commit: u64) -> Result<Vec<u8>, Al
     error_line(alloc, number, text.as_bytes())
 }
 
+// The line above a grid.
+#[tactic(auto, unfolding(aso_spec::specs::Grid::grid_head))]
+fn grid_head(
+    alloc: Global,
+    number: u64,
+    commit: u64,
+    rows: u32,
+    columns: u32,
+) -> Result<String, AllocError>
+    ensures { IfOk result (λ line. string_bytes line ≡ grid_head number commit rows columns) }
+{
+    let mut line = String::from_str(alloc, "GRID ")?;
+    write!(line, "{number}")?;
+    line.push_str(" commit ")?;
+    write!(line, "{commit}")?;
+    line.push_str(" rows ")?;
+    write!(line, "{rows}")?;
+    line.push_str(" columns ")?;
+    write!(line, "{columns}")?;
+    line.push('\n')?;
+    Ok(line)
+}
+
 /// The reply to a query: its head and its grid.
 pub fn grid_reply(
     alloc: Global,
     number: u64,
     commit: u64,
-    rows: usize,
-    columns: usize,
+    rows: u32,
+    columns: u32,
     grid: &[u8],
 ) -> Result<Vec<u8>, AllocError>
     ensures { IfOk result (λ reply. reply.items ≡ grid_head number commit rows columns ++ grid.now) }

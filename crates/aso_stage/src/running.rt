@@ -1,28 +1,28 @@
 // The run of a script: its statements, one behind the other.
-ghost use Rattle.std.specs.Prelude.{◌≡◌, ◌+◌, ◌-◌, ◌<◌, ◌≤◌, ◌^◌, ℕ, Err, Option, map, length, IfOk, IfErr, OnErr, IsErrOf};
+ghost use Rattle.std.specs.Prelude.{◌≡◌, ◌+◌, ◌-◌, ◌<◌, ◌≤◌, ◌^◌, Err, map, length, IfOk, IfErr, OnErr, IsErrOf};
 ghost use Rattle.aso_disk.specs.Causes.{HasCause, Rose};
 ghost use Rattle.aso_spec.specs.Cells.{add_at};
-ghost use Rattle.aso_spec.specs.Script.{Statement as Spelled, script_lines};
+ghost use Rattle.aso_script.specs.Script.{Line as ScriptLine, script_lines};
 ghost use Rattle.aso_catalog.specs.View.{TellsAlike, Throughout, device_of, IsTold};
 ghost use Rattle.aso_script.specs.Lines.{line as line_of};
-ghost use Rattle.aso_stage.specs.Machine.{Changes, Held, said};
+ghost use Rattle.aso_machine.specs.Machine.{Changes, Comes, Held};
 ghost use Rattle.aso_stage.specs.Runs.{Ran, left_of, now_of};
 ghost use Rattle.aso_stage.specs.Session.{first_fault};
-ghost use Rattle.aso_stage.specs.Store.{entry};
-ghost use Rattle.aso_stage.specs.Taking.{Holds, IsReady, Replies, Taken, TakesLine};
-ghost use Rattle.aso_stage.specs.Verdicts.{MayCommit, read};
+ghost use Rattle.aso_machine.specs.State.{entry};
+ghost use Rattle.aso_stage.specs.Stores.{state_of};
+ghost use Rattle.aso_stage.specs.Taking.{Holds, IsReady, Replies, Taken};
+ghost use Rattle.aso_machine.specs.Verdicts.{MayCommit};
 
 use crate::amount::next_body;
 use crate::answer::Answer;
 use crate::committing::publish_next;
-use crate::judging::judge;
 use crate::replying::{doubt_line, error_line, grid_reply, ok_line, put_end, put_no_memory};
 use crate::store::Store;
-use crate::verdict::Verdict;
 use aso_catalog::{Catalog, PublishFault};
 use aso_disk::{Sink, Slots, Trouble};
+use aso_machine::{Verdict, judge};
 use aso_num::{NoMemory, Status};
-use aso_script::{Line, Statement, cut_lines, read_statement};
+use aso_script::{Line, cut_lines};
 use std::alloc::Global;
 
 // Publishes the commit of an amount, and answers it. The replies are made before, so that a commit that was published is
@@ -36,8 +36,8 @@ fn commit<C: Slots>(
     amount: i128,
 ) -> Result<Answer, NoMemory>
     requires ready { IsReady catalog.old store.old }
-    requires may { MayCommit store.old key.now amount }
-    ensures taken { IfOk result (λ a. (h : Held) (at : ℕ) (s : Option Spelled) → Holds catalog.old store.old h → said h.state at s ≡ Changes (add_at key.now amount (map entry store.old.saved.cells)) → Taken catalog.old catalog.new store.new h number at s a.text.items a.status) }
+    requires may { MayCommit store.old.outline store.old.saved key.now amount }
+    ensures taken { IfOk result (λ a. (h : Held) (line : ScriptLine) → Holds catalog.old store.old h → Comes (state_of store.old) line (Changes (add_at key.now amount (map entry store.old.saved.cells))) → Taken catalog.old catalog.new store.new h number line a.text.items a.status) }
     ensures stays { OnErr result ((catalog.new ≡ catalog.old) × (store.new ≡ store.old)) }
     ensures ready { IsReady catalog.new store.new }
     ensures outline { store.new.outline ≡ store.old.outline }
@@ -71,17 +71,16 @@ fn commit<C: Slots>(
     }
 }
 
-// Answers the statement of a line, or a line that spells none. Of want of memory nothing is left.
-fn take<C: Slots>(
+// Answers a line. Of want of memory nothing is left.
+fn take_line<C: Slots>(
     alloc: Global,
     catalog: &mut Catalog<C>,
     store: &mut Store,
     number: u64,
-    at: usize,
-    statement: Option<&Statement>,
+    line: &Line<'_>,
 ) -> Result<Answer, NoMemory>
     requires { IsReady catalog.old store.old }
-    ensures taken { IfOk result (λ a. (h : Held) → Holds catalog.old store.old h → Taken catalog.old catalog.new store.new h number at (read statement.entry) a.text.items a.status) }
+    ensures taken { IfOk result (λ a. (h : Held) → Holds catalog.old store.old h → Taken catalog.old catalog.new store.new h number (line_of line.now) a.text.items a.status) }
     ensures stays { OnErr result ((catalog.new ≡ catalog.old) × (store.new ≡ store.old)) }
     ensures ready { IsReady catalog.new store.new }
     ensures outline { store.new.outline ≡ store.old.outline }
@@ -90,7 +89,7 @@ fn take<C: Slots>(
     ensures told { TellsAlike catalog.old catalog.new }
     ensures same { C.same (device_of catalog.old) (device_of catalog.new) }
 {
-    match judge(alloc, store, at, statement)? {
+    match judge(alloc, &store.outline, &store.saved, line)? {
         Verdict::Refused { text } => Ok(Answer {
             status: Status::Refused,
             text: error_line(alloc, number, &text)?,
@@ -105,28 +104,6 @@ fn take<C: Slots>(
         }),
         Verdict::Commit { key, amount } => commit(alloc, catalog, store, number, &key, amount),
     }
-}
-
-// Answers a line.
-fn take_line<C: Slots>(
-    alloc: Global,
-    catalog: &mut Catalog<C>,
-    store: &mut Store,
-    number: u64,
-    line: &Line<'_>,
-) -> Result<Answer, NoMemory>
-    requires { IsReady catalog.old store.old }
-    ensures takes { IfOk result (λ a. (h : Held) → Holds catalog.old store.old h → TakesLine catalog.old catalog.new store.new h number (line_of line.now) a.text.items a.status) }
-    ensures stays { OnErr result ((catalog.new ≡ catalog.old) × (store.new ≡ store.old)) }
-    ensures ready { IsReady catalog.new store.new }
-    ensures outline { store.new.outline ≡ store.old.outline }
-    ensures past { Throughout catalog.old catalog.new (λ c. Unit {0}) }
-    ensures later { C.faults (device_of catalog.old) ≤ C.faults (device_of catalog.new) }
-    ensures told { TellsAlike catalog.old catalog.new }
-    ensures same { C.same (device_of catalog.old) (device_of catalog.new) }
-{
-    let statement = read_statement(alloc, line.bytes)?;
-    take(alloc, catalog, store, number, line.at, statement.as_ref())
 }
 
 // Answers a line and puts its reply, also where there is no memory for it.

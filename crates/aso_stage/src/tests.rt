@@ -1,178 +1,127 @@
-ghost use Rattle.std.specs.Prelude.{◌≡◌, ◌<◌, [], ◌∷◌, length, None, IfOk, IfSome};
-ghost use Rattle.aso_catalog.specs.Record.{AreRising, IsStorable};
-ghost use Rattle.aso_stage.specs.Stores.{IsStore};
-
-use crate::{Store, Verdict, judge, recover};
+use crate::{LONGEST_TEXT, create, recover};
 use aso_catalog::{LeafCell, Record};
-use aso_num::{List, NoMemory};
-use aso_script::read_statement;
-use std::alloc::{AllocError, Global};
-use std::fmt::Write;
+use aso_disk::MemSlots;
+use aso_num::{List, NoMemory, Status};
+use std::alloc::Global;
 use std::str;
 use std::test::Fail;
 
-const OUTLINE: &[u8] = b"dim Year\n.Jan\n.Feb\ndim Market\n.NY\n.CA\n";
+const OUTLINE: &str = "dim Year\n.Jan\n.Feb\ndim Market\n.NY\n.CA\n";
 
-fn cell(alloc: Global, year: u32, market: u32, amount: i128) -> Result<LeafCell, NoMemory>
-    ensures { IfOk result (λ c. c.leaves ≡ year ∷ market ∷ []) }
-{
-    Ok(LeafCell {
-        leaves: List::of(Vec::from_slice(alloc, &[year, market])?),
-        amount,
-    })
-}
+const JSON: &str =
+    "{\"app\":\"Sales\",\"db\":\"Year\",\"dimensions\":[{\"name\":\"Year\",\"hierarchies\":[{\"kind\":\"stored\",\"root\":{\"name\":\"Year\",\"children\":[{\"name\":\"Jan\"}]}}]}]}";
 
-// Cells of 21 and of the greatest amount.
-fn cells(alloc: Global) -> Result<Vec<LeafCell>, NoMemory>
-    ensures { IfOk result (λ v. (length v.items ≡ 2) × AreRising 2 None v.items) }
-{
-    let mut cells = Vec::new(alloc);
-    cells.push(cell(alloc, 0, 0, 210_000)?)?;
-    cells.push(cell(alloc, 1, 1, 999_999_999_999_999_999)?)?;
-    Ok(cells)
-}
-
-fn record(alloc: Global, layout: u64) -> Result<Record, NoMemory>
-    requires { 2 < layout }
-    ensures { IfOk result IsStorable }
-{
-    let cells = cells(alloc)?;
-    let outline = Vec::from_slice(alloc, OUTLINE)?;
-    Ok(Record {
-        layout,
-        commit: 2,
-        outline: List::of(outline),
-        dimensions: 2,
-        cells: List::of(cells),
-    })
-}
-
-fn store(alloc: Global, layout: u64) -> Result<Option<Store>, NoMemory>
-    requires { 2 < layout }
-    ensures { IfOk result (λ found. IfSome found (λ s. IsStore s × IsStorable s.saved)) }
-{
-    let r = record(alloc, layout)?;
-    recover(alloc, r)
-}
-
-fn put_text(text: &[u8], out: &mut String) -> Result<(), AllocError> {
-    match str::from_utf8(text) {
-        Ok(text) => out.push_str(text),
-        Err(_) => out.push('?'),
+// The outline's text, with an empty line in front of it for each byte that it is too short.
+fn padded(alloc: Global, length: usize) -> Result<Vec<u8>, NoMemory> {
+    let mut text = Vec::new(alloc);
+    for _ in OUTLINE.len()..length {
+        text.push(b'\n')?;
     }
+    text.extend_from_slice(OUTLINE.as_bytes())?;
+    Ok(text)
 }
 
-fn put_verdict(verdict: &Verdict, out: &mut String) -> Result<(), AllocError> {
-    match verdict {
-        Verdict::Refused { text } => put_text(text, out),
-        Verdict::Grid {
-            rows,
-            columns,
-            text,
-        } => {
-            write!(out, "{rows}x{columns} ")?;
-            put_text(text, out)
-        }
-        Verdict::Commit { key, amount } => {
-            for leaf in key {
-                write!(out, "{leaf} ")?;
-            }
-            write!(out, "{amount}")
-        }
-    }
-}
-
-// What a line at byte 7 comes to.
-fn told(alloc: Global, layout: u64, line: &[u8]) -> Result<String, NoMemory>
-    requires { 2 < layout }
-{
-    let mut out = String::new(alloc);
-    let Some(store) = store(alloc, layout)? else {
-        return Ok(out);
-    };
-    let statement = read_statement(alloc, line)?;
-    let verdict = judge(alloc, &store, 7, statement.as_ref())?;
-    put_verdict(&verdict, &mut out)?;
-    Ok(out)
+// The status and the line of the making of a store.
+fn made(alloc: Global, text: &[u8]) -> Result<(Status, Vec<u8>), Fail> {
+    let zeros = vec![in alloc; 0u8; 262_144]?;
+    let slots = MemSlots::new(alloc, zeros, 200, Vec::new(alloc))?;
+    let (_, answer) = create(alloc, slots, text);
+    let answer = answer?;
+    Ok((answer.status, answer.text))
 }
 
 #[test]
-fn lines_are_judged(rt: HostRuntime) -> Result<(), Fail> {
+fn a_store_is_made_of_the_text_of_an_outline(rt: HostRuntime) -> Result<(), Fail> {
     let cases = [
-        (b"exit;\n".as_slice(), "201 syntax: byte 7"),
         (
-            b"alter database A.Basic add cell ([Paris]) 1;\n",
-            "202 database: A.Basic",
+            OUTLINE,
+            Status::Done,
+            "CREATED Sample.Basic members 6 bits 2\n",
         ),
         (
-            b"alter database Sample.Basic add cell ([Jan],[P\tris]) 1;\n",
-            "203 unknown member: P?ris",
+            "# ours\r\n\r\ndatabase Sales.Year\r\ndim Jahr\r\n.M\u{e4}rz",
+            Status::Done,
+            "CREATED Sales.Year members 2 bits 0\n",
+        ),
+        (JSON, Status::Done, "CREATED Sales.Year members 2 bits 0\n"),
+        (
+            "dim Year\nJan\n",
+            Status::Refused,
+            "ERROR 0 201 syntax: byte 9\n",
         ),
         (
-            b"alter database Sample.Basic add cell ([Jan],[Feb]) 1;\n",
-            "216 wrong dimension: Feb",
+            "dim Year\n.Jan\n.Jan\n",
+            Status::Refused,
+            "ERROR 0 217 outline: rule O3 at member 2\n",
         ),
+        ("{", Status::Refused, "ERROR 0 217 outline: not JSON\n"),
         (
-            b"alter database Sample.Basic add cell ([NY]) 1;\n",
-            "216 wrong dimension: Year",
-        ),
-        (
-            b"alter database Sample.Basic add cell ([CA],[Jan]) -1.5;\n",
-            "0 1 -15000",
-        ),
-        (
-            b"alter database Sample.Basic add cell ([CA],[Feb]) 0.0001;\n",
-            "210 amount range: Feb, CA, 100000000000000.0000",
-        ),
-        (
-            b"select {[Jan],[Year]} on columns, {[Market]} on rows from Sample.Basic;\n",
-            "1x2 \tJan\tYear\nMarket\t21.0000\t100000000000020.9999\n",
-        ),
-        (
-            b"select {[Jan],[Feb]} on columns from Sample.Basic where ([NY]);\n",
-            "1x2 \tJan\tFeb\n\t21.0000\t#Missing\n",
-        ),
-        (
-            b"select {[NY],[CA]} on columns, {[Feb]} on rows from Sample.Basic;\n",
-            "1x2 \tNY\tCA\nFeb\t#Missing\t99999999999999.9999\n",
-        ),
-        (
-            b"select {[Jan]} on columns, {[Feb]} on rows from Sample.Basic;\n",
-            "216 wrong dimension: Feb",
-        ),
-        (
-            b"select {[Jan]} on columns from Sample.Basic where ([NY],[Feb]);\n",
-            "216 wrong dimension: Feb",
-        ),
-        (
-            b"select {[Jan]} on columns from Sample.Basic where ([Rome]);\n",
-            "203 unknown member: Rome",
+            "{\"app\":7}",
+            Status::Refused,
+            "ERROR 0 217 outline: field /app\n",
         ),
     ];
-    for (line, text) in cases {
-        assert_eq!(rt; told(rt.alloc(), 3, line)?.as_str(), text);
+    for (text, status, line) in cases {
+        let (ended, printed) = made(rt.alloc(), text.as_bytes())?;
+        assert_eq!(rt; str::from_utf8(&printed)?, line);
+        assert_eq!(rt; ended, status);
     }
     Ok(())
 }
 
 #[test]
-fn no_change_comes_behind_the_last_layout(rt: HostRuntime) -> Result<(), Fail> {
-    let cases = [
-        (
-            b"alter database Sample.Basic add cell ([CA],[Feb]) 0.0001;\n".as_slice(),
-            "215 sequence end",
-        ),
-        (
-            b"alter database Sample.Basic add cell ([CA]) 1;\n",
-            "216 wrong dimension: Year",
-        ),
-        (
-            b"select {[Jan]} on columns from Sample.Basic;\n",
-            "1x1 \tJan\n\t21.0000\n",
-        ),
-    ];
-    for (line, text) in cases {
-        assert_eq!(rt; told(rt.alloc(), u64::MAX, line)?.as_str(), text);
-    }
+fn a_longer_text_is_not_kept(rt: HostRuntime) -> Result<(), Fail> {
+    let alloc = rt.alloc();
+    let (status, line) = made(alloc, &padded(alloc, LONGEST_TEXT)?)?;
+    assert_eq!(rt;
+        str::from_utf8(&line)?,
+        "CREATED Sample.Basic members 6 bits 2\n"
+    );
+    assert_eq!(rt; status, Status::Done);
+    let (status, line) = made(alloc, &padded(alloc, 50_001)?)?;
+    assert_eq!(rt;
+        str::from_utf8(&line)?,
+        "ERROR 0 217 outline: too long 50001\n"
+    );
+    assert_eq!(rt; status, Status::Refused);
+    // a text that gives no outline is at fault for that, however long it is
+    let mut faulty = padded(alloc, 50_001)?;
+    faulty.extend_from_slice(b"Mar\n")?;
+    let (status, line) = made(alloc, &faulty)?;
+    assert_eq!(rt; str::from_utf8(&line)?, "ERROR 0 201 syntax: byte 50001\n");
+    assert_eq!(rt; status, Status::Refused);
+    Ok(())
+}
+
+// Whether the record of a text and one cell stands for a store.
+fn is_recovered(alloc: Global, text: &[u8], leaf: u32, amount: i128) -> Result<bool, NoMemory> {
+    let mut cells = Vec::new(alloc);
+    cells.push(LeafCell {
+        leaves: List::of(Vec::from_slice(alloc, &[1, leaf])?),
+        amount,
+    })?;
+    let r = Record {
+        layout: 3,
+        commit: 2,
+        outline: List::of(Vec::from_slice(alloc, text)?),
+        dimensions: 2,
+        cells: List::of(cells),
+    };
+    Ok(recover(alloc, r)?.is_some())
+}
+
+#[test]
+fn a_record_stands_for_a_store_where_its_cells_fit_its_outline(
+    rt: HostRuntime,
+) -> Result<(), Fail> {
+    let alloc = rt.alloc();
+    let text = OUTLINE.as_bytes();
+    assert!(rt; is_recovered(alloc, text, 1, 999_999_999_999_999_999)?);
+    assert!(rt; !is_recovered(alloc, text, 1, 1_000_000_000_000_000_000)?);
+    assert!(rt; !is_recovered(alloc, text, 2, 1)?);
+    assert!(rt; !is_recovered(alloc, JSON.as_bytes(), 0, 1)?);
+    assert!(rt; !is_recovered(alloc, b"dim", 0, 1)?);
+    assert!(rt; is_recovered(alloc, &padded(alloc, LONGEST_TEXT)?, 0, 1)?);
+    assert!(rt; !is_recovered(alloc, &padded(alloc, 50_001)?, 0, 1)?);
     Ok(())
 }

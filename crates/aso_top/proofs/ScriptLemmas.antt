@@ -1,6 +1,6 @@
 -- The run of a script over a store that was opened.
-use Rattle.std.proofs.Common.{◌≡◌, ◌⊎◌, inl, inr, ⊎_elim, ◌∙◌, ℕ, ◌+◌, ◌-◌, ◌^◌, ◌≤◌, List, [], ◌∷◌, Option, Some, None, sym, refl, ap, subst, arith}
-use Rattle.std.specs.Prelude.{IfOk, IfSome, IsOkAnd, IsSome, Result, Ok, Err, is_some, min}
+use Rattle.std.proofs.Common.{◌≡◌, ◌⊎◌, inl, inr, ⊎_elim, ◌∙◌, ℕ, ◌+◌, ◌≤◌, List, [], ◌∷◌, Option, Some, None, sym, refl, subst, arith}
+use Rattle.std.specs.Prelude.{IfOk, IfSome, IsOkAnd, IsSome, Result, Ok, Err}
 use Rattle.aso_num.specs.declared.status.Status.{Status}
 use Rattle.aso_num.specs.declared.status.Status.TheVariants.{Done, Usage, Refused, Damaged, Library, Sink, Disk, NoMemory, NoStore, Exists}
 use Rattle.aso_disk.specs.Causes.{Rose}
@@ -8,24 +8,24 @@ use Rattle.aso_disk.specs.Slots.{Runs, Still}
 use Rattle.aso_disk.specs.Texts.{Texts}
 use Rattle.aso_disk.specs.declared.trouble.Trouble.{Trouble}
 use Rattle.aso_disk.specs.declared.trouble.Trouble.TheVariants.{Failed, NoMemory as OutOfMemory}
-use Rattle.aso_spec.specs.Script.{Line, Statement, script_lines}
+use Rattle.aso_script.specs.Script.{Line, script_lines}
 use Rattle.aso_catalog.specs.Image.{FromSync, SomeImage}
 use Rattle.aso_catalog.specs.View.{Throughout}
 use Rattle.aso_catalog.specs.declared.catalog.Catalog.{Catalog}
-use Rattle.aso_stage.specs.Store.{State}
-use Rattle.aso_stage.specs.Machine.{Held, Said, Outcome, held}
+use Rattle.aso_machine.specs.State.{State}
+use Rattle.aso_machine.specs.Machine.{Held, Outcome, held}
 use Rattle.aso_stage.specs.Images.{Recovers}
-use Rattle.aso_stage.specs.Session.{Entry, Now, Step, Steps, first_fault, status_of}
+use Rattle.aso_stage.specs.Session.{Entry, Now, Steps, first_fault, status_of}
 use Rattle.aso_stage.specs.Opening.{IsOpenedFrom, IsUntouched}
 use Rattle.aso_stage.specs.Opened.{OpenAnswer}
-use Rattle.aso_stage.specs.Runs.{Ran, cut_status, left_of, now_of}
+use Rattle.aso_stage.specs.Runs.{Ran, left_of, now_of}
 use Rattle.aso_stage.proofs.Sessions.{steps_faults}
 use Rattle.aso_memory.specs.declared.NoMemory.{NoMemory as WantOfMemory}
 use Rattle.aso_stage.specs.declared.answer.Answer.{Answer}
 use Rattle.aso_top.specs.Found.{NotRead}
 use Rattle.aso_top.specs.Lines.{memory_line, no_text_line}
 use Rattle.aso_top.specs.Ends.{Ends, EndsAs, Gives, IsCut}
-use Rattle.aso_top.specs.Scripts.{Causes, EndedAs, NotOpened, OpenedRun, RunsLines, RunsScript, ScriptRun}
+use Rattle.aso_top.specs.Scripts.{Causes, EndedAs, NotOpened, RunsScript, ScriptRun}
 
 -- ---- counts
 
@@ -35,17 +35,17 @@ rose_within a b c d low rose high = omega (arith, rose)
 -- ---- the status of some statements
 
 -- of an outcome the status is no library's and no sink's, and a disk's only where that failed
-outcome_status : (failed : Type 0) (h : Held) (i at : ℕ) (s : Option Statement) (reply : List ℕ) (status : Status) (after : Held) → Outcome failed h i at s reply status after → (status ≡ Library → ⊥) × (status ≡ Sink → ⊥) × (status ≡ Disk → failed)
-outcome_status failed h i at s reply Done after is = (λ e. Prim.cc, λ e. Prim.cc, λ e. Prim.cc)
-outcome_status failed h i at s reply Usage after is = absurd is
-outcome_status failed h i at s reply Refused after is = (λ e. Prim.cc, λ e. Prim.cc, λ e. Prim.cc)
-outcome_status failed h i at s reply Damaged after is = absurd is
-outcome_status failed h i at s reply Library after is = absurd is
-outcome_status failed h i at s reply Sink after is = absurd is
-outcome_status failed h i at s reply Disk after is = (λ e. Prim.cc, λ e. Prim.cc, λ e. is.0)
-outcome_status failed h i at s reply NoMemory after is = (λ e. Prim.cc, λ e. Prim.cc, λ e. Prim.cc)
-outcome_status failed h i at s reply NoStore after is = absurd is
-outcome_status failed h i at s reply Exists after is = absurd is
+outcome_status : (failed : Type 0) (h : Held) (i : ℕ) (l : Line) (reply : List ℕ) (status : Status) (after : Held) → Outcome failed h i l reply status after → (status ≡ Library → ⊥) × (status ≡ Sink → ⊥) × (status ≡ Disk → failed)
+outcome_status failed h i l reply Done after is = (λ e. Prim.cc, λ e. Prim.cc, λ e. Prim.cc)
+outcome_status failed h i l reply Usage after is = absurd is
+outcome_status failed h i l reply Refused after is = (λ e. Prim.cc, λ e. Prim.cc, λ e. Prim.cc)
+outcome_status failed h i l reply Damaged after is = absurd is
+outcome_status failed h i l reply Library after is = absurd is
+outcome_status failed h i l reply Sink after is = absurd is
+outcome_status failed h i l reply Disk after is = (λ e. Prim.cc, λ e. Prim.cc, λ e. is.0)
+outcome_status failed h i l reply NoMemory after is = (λ e. Prim.cc, λ e. Prim.cc, λ e. Prim.cc)
+outcome_status failed h i l reply NoStore after is = absurd is
+outcome_status failed h i l reply Exists after is = absurd is
 
 -- the status of the first is the status of one of them
 first_is : (a b wanted : Status) → first_fault a b ≡ wanted → (a ≡ wanted) ⊎ (b ≡ wanted)
@@ -63,7 +63,7 @@ first_is Exists b wanted e = inl e
 pub steps_status : (told : Type 0) (left : ℕ → List ℕ → Type 0) (i : ℕ) (now : Now) (es : List Entry) (after : Now) → Steps told left i now es after → (status_of es ≡ Library → ⊥) × (status_of es ≡ Sink → ⊥) × (status_of es ≡ Disk → Rose now.faults after.faults)
 steps_status told left i now [] after is = (λ e. Prim.cc, λ e. Prim.cc, λ e. Prim.cc)
 steps_status told left i now (x ∷ xs) after is =
-    let one = outcome_status (Rose now.faults x.after.faults) now.held i x.line.at x.statement x.reply x.status x.after.held is.0.outcome in
+    let one = outcome_status (Rose now.faults x.after.faults) now.held i x.line x.reply x.status x.after.held is.0.outcome in
     let rest = steps_status told left (i + 1) x.after xs after is.1 in
     let high : x.after.faults ≤ after.faults = steps_faults told left (i + 1) x.after xs after is.1 in
     let low : now.faults ≤ x.after.faults = is.0.later in (

@@ -1,11 +1,13 @@
 -- What a run answers to a command: a status and a text, and what a crash leaves of the catalog.
-use Rattle.std.specs.Prelude.{◌≡◌, ◌⊎◌, ℕ, List, Option, Some, None, IsSome, MatchOption, codes}
+use Rattle.std.specs.Prelude.{◌≡◌, ◌⊎◌, ℕ, List, Option, Some, None, IsSome, MatchOption}
 use Rattle.aso_num.specs.declared.status.Status.{Status}
 use Rattle.aso_num.specs.declared.status.Status.TheVariants.{Done, Usage, Refused, Library, NoMemory}
 use Rattle.aso_disk.specs.Causes.{Rose}
 use Rattle.aso_disk.specs.Texts.{Texts}
-use Rattle.aso_spec.specs.Sheet.{Sheet}
-use Rattle.aso_sheet.specs.Replies.{Spells, IsReply}
+use Rattle.aso_spec.specs.Grid.{error_line}
+use Rattle.aso_eval.specs.declared.refusal.SheetRefusal.{SheetRefusal}
+use Rattle.aso_eval.specs.Sheets.{IsRefusal, IsReply}
+use Rattle.aso_eval.specs.Texts.{refusal_text}
 use Rattle.aso_stage.specs.Opening.{IsUntouched}
 use Rattle.aso_stage.specs.Create.{CreateAnswer, CreateLeaves, IsCreated}
 use Rattle.aso_top.specs.declared.words.Command.{Command}
@@ -18,13 +20,15 @@ use Rattle.aso_top.specs.Scripts.{ScriptRun}
 
 -- ---- sheets
 
-pub record IsNotPlain (text out : List ℕ) : Type 0 where
-  pub none : (s : Sheet) → Spells text s → ⊥
-  pub line : out ≡ codes "ERROR 0 201 syntax: byte 0\n"
+-- it is refused for this, and nothing else is printed
+pub record IsRefusedSheet (text out : List ℕ) : Type 0 where
+  pub refusal : SheetRefusal
+  pub refused : IsRefusal text refusal
+  pub line : out ≡ error_line 0 (refusal_text refusal)
 
 abbrev pub SheetAnswer : List ℕ → Status → List ℕ → Type 0
 SheetAnswer text Done out = IsReply text out
-SheetAnswer text Refused out = IsNotPlain text out
+SheetAnswer text Refused out = IsRefusedSheet text out
 SheetAnswer text _ out = ⊥
 
 -- what a text that is there, or not, makes of eval

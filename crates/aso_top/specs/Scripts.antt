@@ -5,10 +5,10 @@ use Rattle.aso_num.specs.declared.status.Status.TheVariants.{Refused, Library, S
 use Rattle.aso_disk.specs.Causes.{Rose}
 use Rattle.aso_disk.specs.Texts.{Texts}
 use Rattle.aso_disk.specs.declared.trouble.Trouble.{Trouble}
-use Rattle.aso_spec.specs.Script.{Line, script_lines}
+use Rattle.aso_script.specs.Script.{Line, script_lines}
 use Rattle.aso_catalog.specs.Image.{SomeImage}
-use Rattle.aso_stage.specs.Store.{State}
-use Rattle.aso_stage.specs.Machine.{held}
+use Rattle.aso_machine.specs.State.{State}
+use Rattle.aso_machine.specs.Machine.{held}
 use Rattle.aso_stage.specs.Images.{Recovers}
 use Rattle.aso_stage.specs.Session.{Now}
 use Rattle.aso_stage.specs.Opening.{IsOpenedFrom, IsUntouched}

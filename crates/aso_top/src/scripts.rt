@@ -2,7 +2,7 @@
 ghost use Rattle.std.specs.Prelude.{◌≡◌, ◌⊎◌, ◌≤◌, IsOkAnd, is_some};
 ghost use Rattle.aso_disk.specs.Causes.{Rose};
 ghost use Rattle.aso_catalog.specs.View.{IsTold, TellsAlike, Throughout, device_of};
-ghost use Rattle.aso_stage.specs.Machine.{Held};
+ghost use Rattle.aso_machine.specs.Machine.{Held};
 ghost use Rattle.aso_stage.specs.Runs.{left_of, now_of};
 ghost use Rattle.aso_stage.specs.Taking.{Holds, IsReady};
 ghost use Rattle.aso_top.specs.Ends.{EndsAs};

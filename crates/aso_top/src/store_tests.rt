@@ -134,10 +134,22 @@ fn a_script_is_answered_line_by_line(rt: HostRuntime) -> Result<(), Fail> {
         ),
         ("", Status::Done, "END 0\n"),
         (
+            // a member of the query's own, and names in any case of the grammar's words
+            "alter database Sample.Basic add cell ([Jan],[NY]) 40;\nalter database Sample.Basic add cell ([Feb],[NY]) 20;\nWITH MEMBER Year.Share AS '[Jan] / ([Jan] + [Feb]) * 100' /* in percent */ Select {Jan, Feb, Share} On Columns, NON EMPTY Market.Children on rows from Sample.Basic;\nselect {Year} on columns from 'Sample'.Basic where (Market);\n",
+            Status::Done,
+            "OK 1 commit 1\nOK 2 commit 2\nGRID 3 commit 2 rows 1 columns 3\n\tJan\tFeb\tShare\nNY\t40.0000\t20.0000\t66.6700\nGRID 4 commit 2 rows 1 columns 1\n\tYear\n\t60.0000\nEND 4\n",
+        ),
+        (
+            // each refusal of a query
+            "select {[Jan\nselect {Jan} on columns from Sample.Other;\nselect {Rome} on columns from Sample.Basic;\nwith member Year.X as '[Jan] +' select {X} on columns from Sample.Basic;\nselect {Jan, NY} on columns from Sample.Basic;\nselect {Jan} on columns, {Feb} on rows from Sample.Basic;\nwith member Year.X as '99999999999999 * 99999999999999 * 1000' select {X} on columns from Sample.Basic;\n",
+            Status::Refused,
+            "ERROR 1 201 syntax: byte 12\nERROR 2 202 database: Sample.Other\nERROR 3 203 unknown member: Rome\nERROR 4 212 formula: X byte 7\nERROR 5 216 wrong dimension: NY\nERROR 6 216 wrong dimension: Feb\nERROR 7 211 value range: X, Market\nEND 7\n",
+        ),
+        (
             // nothing that isn't OK keeps the next statements from being taken
             "\nselect {[Jan]} on columns from Sample.Basic;\r\nalter database Sample.Other add cell ([Jan],[NY]) 1;\nalter database Sample.Basic add cell ([Jan],[Paris]) 1;\nalter database Sample.Basic add cell ([Jan],[Market]) 1;\nalter database Sample.Basic add cell ([Jan]) 1;\nalter database Sample.Basic add cell ([Jan],[NY]) 2;\nalter database Sample.Basic add cell ([Jan],[NY]) 99999999999999.9999;\nselect {[Jan]} on columns from Sample.Basic where ([NY]);\nselect {[Jan],[NY]} on columns from Sample.Basic;\nselect {[Jan]} on columns from Sample.Basic;",
             Status::Refused,
-            "ERROR 1 201 syntax: byte 0\nERROR 2 201 syntax: byte 1\nERROR 3 202 database: Sample.Other\nERROR 4 203 unknown member: Paris\nERROR 5 216 wrong dimension: Market\nERROR 6 216 wrong dimension: Market\nOK 7 commit 1\nERROR 8 210 amount range: Jan, NY, 100000000000001.9999\nGRID 9 commit 1 rows 1 columns 1\n\tJan\n\t2.0000\nERROR 10 216 wrong dimension: NY\nERROR 11 201 syntax: byte 493\nEND 11\n",
+            "ERROR 1 201 syntax: byte 0\nERROR 2 201 syntax: byte 44\nERROR 3 202 database: Sample.Other\nERROR 4 203 unknown member: Paris\nERROR 5 216 wrong dimension: Market\nERROR 6 216 wrong dimension: Market\nOK 7 commit 1\nERROR 8 210 amount range: Jan, NY, 100000000000001.9999\nGRID 9 commit 1 rows 1 columns 1\n\tJan\n\t2.0000\nERROR 10 216 wrong dimension: NY\nERROR 11 201 syntax: byte 536\nEND 11\n",
         ),
     ];
     for (script, status, text) in cases {
@@ -246,6 +258,33 @@ fn a_sink_that_fails_ends_the_run(rt: HostRuntime) -> Result<(), Fail> {
         // the statement whose reply was cut stands
         assert!(rt; is_store(alloc, &mut slots, commit, amount)?);
     }
+    Ok(())
+}
+
+// The Basic outline, cut down, with a formula.
+const MARGINS: &str =
+    "{\"app\":\"Sample\",\"db\":\"Basic\",\"dimensions\":[\n  {\"name\":\"Year\",\"hierarchies\":[{\"kind\":\"stored\",\"root\":{\"name\":\"Year\",\"children\":[{\"name\":\"Jan\"},{\"name\":\"Feb\"}]}}]},\n  {\"name\":\"Market\",\"hierarchies\":[{\"kind\":\"stored\",\"root\":{\"name\":\"Market\",\"children\":[{\"name\":\"NY\"},{\"name\":\"CA\"}]}}]},\n  {\"name\":\"Measures\",\"hierarchies\":[{\"kind\":\"dynamic\",\"root\":{\"name\":\"Measures\",\"label_only\":true,\"children\":[\n    {\"name\":\"Margin\",\"children\":[{\"name\":\"Sales\"},{\"name\":\"Cost\",\"op\":\"-\"}]},\n    {\"name\":\"Pct\",\"formula\":\"[Margin] / [Sales] * 100\"}]}}]}]}\n";
+
+#[test]
+fn an_outline_with_formulas_is_asked_by_queries(rt: HostRuntime) -> Result<(), Fail> {
+    let alloc = rt.alloc();
+    let zeros = blank(alloc)?;
+    let mut slots = device(alloc, &zeros, NEVER)?;
+    let (ended, printed) = ran(alloc, &mut slots, "create", MARGINS, NEVER)?;
+    assert_eq!(rt;
+        printed.as_slice(),
+        b"CREATED Sample.Basic members 11 bits 3\n".as_slice()
+    );
+    assert_eq!(rt; ended, Status::Done);
+    let script =
+        "alter database Sample.Basic add cell ([Jan],[NY],[Sales]) 40;\nalter database Sample.Basic add cell ([Jan],[NY],[Cost]) 30;\nalter database Sample.Basic add cell ([Feb],[NY],[Sales]) 25;\nwith member [Year].[Change] as '[Feb] - [Jan]', solve_order = 30 select {[Jan],[Feb],[Change]} on columns, {Measures.children, Sales} on rows from Sample.Basic where ([NY]);\nselect {Margin.children} on columns, non empty {Market.members} on rows from Sample.Basic;\n";
+    let (ended, printed) = ran(alloc, &mut slots, "run", script, NEVER)?;
+    let printed = String::from_utf8(printed)?;
+    assert_eq!(rt;
+        printed.as_str(),
+        "OK 1 commit 1\nOK 2 commit 2\nOK 3 commit 3\nGRID 4 commit 3 rows 3 columns 3\n\tJan\tFeb\tChange\nMargin\t10.0000\t25.0000\t15.0000\nPct\t25.0000\t100.0000\t75.0000\nSales\t40.0000\t25.0000\t-15.0000\nGRID 5 commit 3 rows 2 columns 2\n\tSales\tCost\nMarket\t65.0000\t30.0000\nNY\t65.0000\t30.0000\nEND 5\n"
+    );
+    assert_eq!(rt; ended, Status::Done);
     Ok(())
 }
 

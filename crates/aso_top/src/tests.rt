@@ -14,8 +14,6 @@ const FIRST_GRID: &str =
 const USAGE: &str =
     "usage: aso eval SHEET, create DIR OUTLINE, run DIR SCRIPT, check DIR, sample DIR NUMBER CELLS, serve DIR [--rounds N] SCRIPT...\n";
 
-const NOT_PLAIN: &str = "ERROR 0 201 syntax: byte 0\n";
-
 // What a run over a library of one text, "s", prints and ends with. Texts of a million bytes are none of its cases.
 fn ran(
     alloc: Global,
@@ -106,63 +104,47 @@ fn a_run_ends_as_its_words_its_library_and_its_sink_have_it(rt: HostRuntime) -> 
 }
 
 #[test]
-fn each_way_to_be_no_plain_sheet_is_refused(rt: HostRuntime) -> Result<(), Fail> {
+fn a_sheet_that_is_refused_has_one_line(rt: HostRuntime) -> Result<(), Fail> {
     let alloc = rt.alloc();
     let cases = [
-        "",
-        "\n",
-        // a comment, a blank line, a line end of two bytes, a last line without its end, a database line
-        "# demo\ndim A\n.a\ndim B\n.b\ncolumns a\nrows b\n",
-        "dim A\n.a\n\ndim B\n.b\ncolumns a\nrows b\n",
-        "dim A\r\n.a\r\ndim B\r\n.b\r\ncolumns a\r\nrows b\r\n",
-        "dim A\n.a\ndim B\n.b\ncolumns a\nrows b",
-        "database Sample.Basic\ndim A\n.a\ndim B\n.b\ncolumns a\nrows b\n",
-        // lines out of order, lacking or behind the end
-        "dim A\n.a\ndim B\n.b\nrows b\ncolumns a\n",
-        "dim A\n.a\ndim B\n.b\ncolumns a\n",
-        "dim A\n.a\ndim B\n.b\nrows b\n",
-        "dim A\n.a\ndim B\n.b\ncolumns a\ncell a|b|1\nrows b\n",
-        "dim A\n.a\ndim B\n.b\ncolumns a\nrows b\nrows b\n",
-        "columns a\nrows b\n",
-        // members
-        ".a\ndim A\ndim B\n.b\ncolumns A\nrows b\n",
-        "dim A\n..a\ndim B\n.b\ncolumns a\nrows b\n",
-        "dim A\n.a\n...b\ndim B\n.b\ncolumns a\nrows b\n",
-        "dim A\n.1\n..2\n...3\n....4\n.....5\n......6\n.......7\n........8\ndim B\n.b\ncolumns 1\nrows b\n",
-        "dim A\n.a\ndim B\n.a\ncolumns A\nrows B\n",
-        "dim A\n.a b\ndim B\n.b\ncolumns A\nrows b\n",
-        "dim A\n.\ndim B\n.b\ncolumns A\nrows b\n",
-        "dim A\n.\u{e9}\ndim B\n.b\ncolumns A\nrows b\n",
-        "dim  A\n.a\ndim B\n.b\ncolumns a\nrows b\n",
-        "dim 1\ndim 2\ndim 3\ndim 4\ndim 5\ndim 6\ndim 7\ndim 8\ndim 9\ncolumns 1\nrows 2\n",
-        // cells
-        "dim A\n.a\ndim B\n.b\ncell a|b\ncolumns a\nrows b\n",
-        "dim A\n.a\ndim B\n.b\ncell a|1\ncolumns a\nrows b\n",
-        "dim A\n.a\ndim B\n.b\ncell a|b|c|1\ncolumns a\nrows b\n",
-        "dim A\n.a\ndim B\n.b\ncell a|a|1\ncolumns a\nrows b\n",
-        "dim A\n.a\ndim B\n.b\ncell A|b|1\ncolumns a\nrows b\n",
-        "dim A\n.a\ndim B\n.b\ncell a|c|1\ncolumns a\nrows b\n",
-        "dim A\n.a\ndim B\n.b\ncell a|b|1,5\ncolumns a\nrows b\n",
-        "dim A\n.a\ndim B\n.b\ncell a|b|1.00001\ncolumns a\nrows b\n",
-        "dim A\n.a\ndim B\n.b\ncell a|b|1234567890\ncolumns a\nrows b\n",
-        "dim A\n.a\ndim B\n.b\ncell a|b|\ncolumns a\nrows b\n",
-        // axes
-        "dim A\n.a\ndim B\n.b\ncolumns \nrows b\n",
-        "dim A\n.a\ndim B\n.b\ncolumns a|b\nrows b\n",
-        "dim A\n.a\ndim B\n.b\ncolumns a\nrows A\n",
-        "dim A\n.a\ndim B\n.b\ncolumns c\nrows b\n",
-        "dim A\n.a\ndim B\n.b\ncolumns a|\nrows b\n",
+        ("", "ERROR 0 201 syntax: byte 0\n"),
+        ("dim A\nB\n", "ERROR 0 201 syntax: byte 6\n"),
+        (
+            "dim A\n.a\ndim B\ncolumns a\ncell a|B|1\nrows B\n",
+            "ERROR 0 201 syntax: byte 25\n",
+        ),
+        (
+            "dim A\n.a\n.a\ndim B\ncolumns a\nrows B\n",
+            "ERROR 0 217 outline: rule O3 at member 2\n",
+        ),
+        (
+            "dim A\n.a\ndim B\ncolumns a\nrows B|Paris\n",
+            "ERROR 0 203 unknown member: Paris\n",
+        ),
+        (
+            "dim A\n.a\ndim B\ncell A|B|1\ncolumns a\nrows B\n",
+            "ERROR 0 216 wrong dimension: A\n",
+        ),
+        (
+            "dim A\n.a\ndim B\ncolumns a\nrows A\n",
+            "ERROR 0 216 wrong dimension: A\n",
+        ),
+        (
+            "dim A\n.a\ndim B\ncell a|B|99999999999999.9999\ncell B|a|0.0001\ncolumns a\nrows B\n",
+            "ERROR 0 210 amount range: a, B, 100000000000000.0000\n",
+        ),
     ];
-    for text in cases {
+    for (text, line) in cases {
         let (ended, printed) = ran(alloc, &["eval", "s"], text, NEVER, NEVER)?;
+        let printed = String::from_utf8(printed)?;
+        assert_eq!(rt; printed.as_str(), line);
         assert_eq!(rt; ended, Status::Refused, "at {text}");
-        assert_eq!(rt; printed.as_slice(), NOT_PLAIN.as_bytes());
     }
     Ok(())
 }
 
 #[test]
-fn grids_of_plain_sheets(rt: HostRuntime) -> Result<(), Fail> {
+fn grids_of_sheets(rt: HostRuntime) -> Result<(), Fail> {
     let alloc = rt.alloc();
     let cases = [
         // dimensions without members below them, and no cell
@@ -175,10 +157,15 @@ fn grids_of_plain_sheets(rt: HostRuntime) -> Result<(), Fail> {
             "dim A\n.a\n..x\n..y\n.z\ndim B\n.b\ndim C\n.c\n.d\ncell x|b|c|1\ncell d|b|x|-1\ncell b|c|y|.5\ncolumns A|a|x|y|z\nrows B|b|b\n",
             "GRID 1 commit 0 rows 3 columns 5\n\tA\ta\tx\ty\tz\nB\t0.5000\t0.5000\t0.0000\t0.5000\t#Missing\nb\t0.5000\t0.5000\t0.0000\t0.5000\t#Missing\nb\t0.5000\t0.5000\t0.0000\t0.5000\t#Missing\nEND 1\n",
         ),
-        // the greatest amount that is plain
+        // the greatest amount
         (
-            "dim A\ndim B\ncell A|B|999999999.9999\ncolumns A\nrows B\n",
-            "GRID 1 commit 0 rows 1 columns 1\n\tA\nB\t999999999.9999\nEND 1\n",
+            "dim A\ndim B\ncell A|B|99999999999999.9999\ncolumns A\nrows B\n",
+            "GRID 1 commit 0 rows 1 columns 1\n\tA\nB\t99999999999999.9999\nEND 1\n",
+        ),
+        // lines of every kind and end, and names of any letters
+        (
+            "# demo\r\n\r\ndatabase Sales.Year\ndim Zeit\r\n.M\u{e4}rz 26\n# ours\ndim B\n.b\n\ncell b|M\u{e4}rz 26|1\ncolumns M\u{e4}rz 26|Zeit\nrows B",
+            "GRID 1 commit 0 rows 1 columns 2\n\tM\u{e4}rz 26\tZeit\nB\t1.0000\t1.0000\nEND 1\n",
         ),
     ];
     for (text, grid) in cases {
@@ -208,22 +195,27 @@ fn sheet_of(alloc: Global, members: u32, cells: u32, columns: u32) -> Result<Str
 }
 
 #[test]
-fn sheets_at_the_limits_are_plain_and_those_past_them_are_not(rt: HostRuntime) -> Result<(), Fail> {
+fn a_sheet_is_as_large_as_its_grid_may_be(rt: HostRuntime) -> Result<(), Fail> {
     let alloc = rt.alloc();
     let cases = [
-        (62, 1000, 64, Status::Done),
-        (63, 1, 1, Status::Refused),
-        (1, 1001, 1, Status::Refused),
-        (1, 1, 65, Status::Refused),
+        (300, 2000, 200, Status::Done),
+        (1, 1, 100_000, Status::Done),
+        (1, 1, 100_001, Status::Refused),
     ];
     for (members, cells, columns, status) in cases {
         let text = sheet_of(alloc, members, cells, columns)?;
-        let (ended, _) = ran(alloc, &["eval", "s"], &text, NEVER, NEVER)?;
+        let (ended, printed) = ran(alloc, &["eval", "s"], &text, NEVER, NEVER)?;
         assert_eq!(rt;
             ended,
             status,
             "at {members} members, {cells} cells, {columns} columns"
         );
+        if status == Status::Refused {
+            assert_eq!(rt;
+                printed.as_slice(),
+                b"ERROR 0 209 grid too large: 100001 cells\n".as_slice()
+            );
+        }
     }
     Ok(())
 }
@@ -264,9 +256,13 @@ fn a_store_is_made_once_and_from_an_outline_alone(rt: HostRuntime) -> Result<(),
     let alloc = rt.alloc();
     let mut slots = zeros(alloc, NEVER)?;
     let cases = [
-        (FIRST, Status::Refused, NOT_PLAIN),
-        ("", Status::Refused, NOT_PLAIN),
-        ("dim A\n.a", Status::Refused, NOT_PLAIN),
+        (FIRST, Status::Refused, "ERROR 0 201 syntax: byte 38\n"),
+        (
+            "",
+            Status::Refused,
+            "ERROR 0 217 outline: rule O1 at member 0\n",
+        ),
+        ("{", Status::Refused, "ERROR 0 217 outline: not JSON\n"),
         (OUTLINE, Status::Done, CREATED),
         (OUTLINE, Status::Exists, EXISTS),
         ("dim A\n", Status::Exists, EXISTS),

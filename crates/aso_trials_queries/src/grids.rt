@@ -139,7 +139,7 @@ pub fn query(alloc: Global, text: &str) -> Result<Query, Fail> {
 }
 
 /// The members of a cell, and behind a plus its attributes.
-pub fn put_cell(
+fn put_cell(
     outline: &Outline,
     own: &[ExtraMember],
     cell: &Tuple,
@@ -218,7 +218,7 @@ fn put_items(name: &str, count: u32, text: &mut String) -> Result<(), AllocError
 }
 
 // A query of so many columns and rows.
-fn sized(alloc: Global, columns: u32, rows: u32) -> Result<String, AllocError> {
+pub fn sized(alloc: Global, columns: u32, rows: u32) -> Result<String, AllocError> {
     let mut text = String::from_str(alloc, "select ")?;
     put_items("[Jan]", columns, &mut text)?;
     text.push_str(" on columns, ")?;
@@ -288,7 +288,24 @@ fn values_of(alloc: Global, count: usize, pattern: &[u8]) -> Result<Vec<Val>, No
 }
 
 /// The size of a grid, and its lines, in which a bar stands for a tab.
-pub fn lines_told(
+pub fn put_lines(
+    rows: u32,
+    columns: u32,
+    lines: &[u8],
+    out: &mut String,
+) -> Result<(), AllocError> {
+    write!(out, "{rows} {columns}:")?;
+    for byte in lines {
+        out.push(if *byte == b'\t' {
+            '|'
+        } else {
+            char::from(*byte)
+        })?;
+    }
+    Ok(())
+}
+
+fn lines_told(
     alloc: Global,
     outline: &Outline,
     extra: &Extra,
@@ -301,14 +318,7 @@ pub fn lines_told(
     let mut out = Vec::new(alloc);
     let (rows, columns) = grid(alloc, outline, extra, plan, values, &mut out)?;
     let mut told = String::new(alloc);
-    write!(told, "{rows} {columns}:")?;
-    for byte in &out {
-        told.push(if *byte == b'\t' {
-            '|'
-        } else {
-            char::from(*byte)
-        })?;
-    }
+    put_lines(rows, columns, &out, &mut told)?;
     Ok(told)
 }
 

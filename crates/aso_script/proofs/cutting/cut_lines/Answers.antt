@@ -1,6 +1,6 @@
 use Rattle.std.proofs.Common.{◌≡◌, ◌<◌, ◌∙◌, length, map, ap, refl, arith, rules}
 use Rattle.std.proofs.lemmas.List.{map-append}
-use Rattle.aso_spec.specs.Script.{script_lines}
+use Rattle.aso_script.specs.Script.{script_lines}
 use Rattle.aso_script.specs.Lines.{line}
 use Rattle.aso_script.proofs.LineLemmas.{one_line, all_lines}
 use Rattle.aso_script.proofs.cutting.cut_lines.Goals as goal

@@ -1,5 +1,5 @@
 use Rattle.std.proofs.Common.{◌≡◌, ◌+◌, ◌++◌, length, map}
-use Rattle.aso_spec.specs.Script.{script_lines, placed, lines_of}
+use Rattle.aso_script.specs.Script.{script_lines, placed, lines_of}
 use Rattle.aso_script.specs.Lines.{line}
 use Rattle.aso_script.proofs.cutting.cut_lines.Given as goal
 

@@ -1,5 +1,4 @@
-use Rattle.std.proofs.Common.{◌≡◌, ◌∙◌, sym}
-use Rattle.aso_stage.specs.Store.{state_with}
+use Rattle.aso_machine.specs.State.{state_with}
 use Rattle.aso_stage.proofs.Covering.{covers_published, covers_doubt, covers_kept, images_during}
 use Rattle.aso_catalog.proofs.Views.{throughout_weaker}
 use Rattle.aso_stage.proofs.committing.publish_next.Goals as goal

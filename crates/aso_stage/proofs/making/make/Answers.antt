@@ -5,7 +5,7 @@ use Rattle.aso_stage.specs.declared.answer.Answer.{Answer}
 use Rattle.aso_catalog.specs.View.{HasRecord, IsBefore, IsTold}
 use Rattle.aso_stage.specs.Create.{IsCreated}
 use Rattle.aso_stage.proofs.Created.{create_leaves, created_at}
-use Rattle.aso_stage.proofs.Outlined.{if_ok}
+use Rattle.aso_stage.proofs.Results.{if_ok}
 use Rattle.aso_stage.proofs.making.make.Goals as goal
 
 pub returns-in-Ok-default-None-clause-crash : goal.returns-in-Ok-default-None-clause-crash

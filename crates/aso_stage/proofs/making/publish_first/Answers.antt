@@ -1,6 +1,6 @@
-use Rattle.std.proofs.Common.{◌≡◌, List, ℕ, sym, subst}
+use Rattle.std.proofs.Common.{List, ℕ, sym, subst}
 use Rattle.aso_stage.specs.Images.{Records}
-use Rattle.aso_stage.specs.Store.{new_store}
+use Rattle.aso_machine.specs.State.{new_store}
 use Rattle.aso_stage.proofs.Created.{nothing_made, made_after, made_images}
 use Rattle.aso_stage.proofs.making.publish_first.Goals as goal
 

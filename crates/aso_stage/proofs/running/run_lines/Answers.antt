@@ -1,9 +1,9 @@
-use Rattle.std.proofs.Common.{◌≡◌, ◌∙◌, ◌≤◌, ◌+◌, ◌<◌, ℕ, get_or, List, [], ◌∷◌, ◌++◌, map, take, drop, length, refl, sym, ap, subst, arith, rules}
+use Rattle.std.proofs.Common.{◌≡◌, ◌∙◌, ◌≤◌, ◌+◌, ◌<◌, ℕ, get_or, List, [], ◌∷◌, ◌++◌, map, take, drop, length, refl, sym, ap, subst, arith}
 use Rattle.aso_catalog.proofs.Views.{throughout_nothing, throughout_then, throughout_weaker}
 use Rattle.std.proofs.lemmas.List.{length-map, length-take-le, map-append, take-append-drop, take_all, take_more}
 use Rattle.aso_script.specs.Lines.{line as line_of}
 use Rattle.aso_script.specs.declared.cutting.Line.{Line as Cut}
-use Rattle.aso_spec.specs.Script.{Line}
+use Rattle.aso_script.specs.Script.{Line}
 use Rattle.aso_num.specs.declared.status.Status.{Status}
 use Rattle.aso_stage.specs.Runs.{SoFar}
 use Rattle.aso_stage.specs.Session.{first_fault}

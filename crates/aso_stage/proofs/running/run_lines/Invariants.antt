@@ -1,7 +1,7 @@
-use Rattle.std.proofs.Common.{◌≡◌, ◌≤◌, ℕ, map, take}
+use Rattle.std.proofs.Common.{◌≡◌, ◌≤◌, map, take}
 use Rattle.aso_catalog.specs.View.{TellsAlike, Throughout}
 use Rattle.aso_script.specs.Lines.{line as line_of}
-use Rattle.aso_stage.specs.Machine.{Held}
+use Rattle.aso_machine.specs.Machine.{Held}
 use Rattle.aso_stage.specs.Runs.{SoFar}
 use Rattle.aso_stage.specs.Taking.{Holds, IsReady}
 use Rattle.aso_stage.proofs.running.run_lines.Given as goal

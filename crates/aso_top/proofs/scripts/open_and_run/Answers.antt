@@ -1,5 +1,5 @@
-use Rattle.std.proofs.Common.{◌≡◌, None, refl, sym, subst}
-use Rattle.aso_stage.specs.Machine.{Held, held}
+use Rattle.std.proofs.Common.{None, refl, sym, subst}
+use Rattle.aso_machine.specs.Machine.{Held, held}
 use Rattle.aso_stage.specs.Stores.{state_of}
 use Rattle.aso_stage.specs.Taking.{Holds}
 use Rattle.aso_top.proofs.ScriptLemmas.{opened_run}

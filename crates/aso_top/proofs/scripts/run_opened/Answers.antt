@@ -1,7 +1,7 @@
-use Rattle.std.proofs.Common.{◌≡◌, ◌∙◌, List, ℕ, Option, ap, refl, rules, sym, subst}
+use Rattle.std.proofs.Common.{◌∙◌, List, ℕ, Option, ap, refl, rules, sym, subst}
 use Rattle.aso_num.specs.declared.status.Status.TheVariants.{Refused, NoMemory}
 use Rattle.aso_disk.specs.Causes.{Rose}
-use Rattle.aso_spec.specs.Script.{script_lines}
+use Rattle.aso_script.specs.Script.{script_lines}
 use Rattle.aso_catalog.specs.declared.catalog.Catalog.{Catalog}
 use Rattle.aso_catalog.specs.View.{IsTold, device_of}
 use Rattle.aso_stage.specs.Runs.{Ran, left_of, now_of}

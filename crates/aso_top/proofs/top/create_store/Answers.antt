@@ -1,4 +1,4 @@
-use Rattle.std.proofs.Common.{◌≡◌, List, ℕ, inl, inr, refl, rules, subst}
+use Rattle.std.proofs.Common.{List, ℕ, inl, inr, refl, rules, subst}
 use Rattle.aso_num.specs.declared.status.Status.TheVariants.{NoMemory}
 use Rattle.aso_top.specs.Lines.{memory_line}
 use Rattle.aso_top.specs.Ends.{Ends}

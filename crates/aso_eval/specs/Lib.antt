@@ -1,0 +1,4 @@
+pub mod Sheets
+pub mod Texts
+pub mod Faults
+pub mod Entries

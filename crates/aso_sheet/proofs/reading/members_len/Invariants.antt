@@ -1,8 +1,0 @@
-use Rattle.std.proofs.Common.{◌≡◌, ◌+◌, drop}
-use Rattle.std.specs.List.{prefix_len}
-use Rattle.aso_spec.specs.Reading.{is_member_line}
-use Rattle.aso_sheet.specs.Raw.{texts}
-use Rattle.aso_sheet.proofs.reading.members_len.Given as goal
-
-abbrev pub invariant-loop-i : goal.invariant-loop-i
-invariant-loop-i l = l.i + prefix_len is_member_line (texts (drop l.i l.lines)) ≡ prefix_len is_member_line (texts l.lines)

@@ -1,6 +1,0 @@
-use Rattle.std.proofs.Common.{◌≡◌, take}
-use Rattle.aso_stage.specs.Slots.{leaves_in}
-use Rattle.aso_stage.proofs.slots.leaves_in.Given as goal
-
-abbrev pub invariant-loop-slot : goal.invariant-loop-slot
-invariant-loop-slot l = l.leaves.items ≡ leaves_in (take l.slot-index l.slots)
