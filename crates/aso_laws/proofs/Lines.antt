@@ -1,99 +1,98 @@
--- A line has one grid, or is one commit.
-use Rattle.std.proofs.Common.{◌≡◌, ◌∙◌, ℕ, ◌-◌, ◌^◌, ◌++◌, ◌==◌, length, codes, Bool, true, false, true≢false, List, Option, Some, None, sym, ap, refl, subst}
-use Rattle.std.specs.Prelude.{ℤ, pos, unsigned_abs, nat_le, nat_lt, if◌then◌else◌}
-use Rattle.std.specs.Fmt.{decimal}
-use Rattle.std.specs.Result.{result_unwrap_or}
-use Rattle.aso_num.specs.AmountText.{amount_of}
-use Rattle.aso_num.specs.Numbers.{value_text}
-use Rattle.aso_num.specs.declared.value.Val.TheVariants.{Num}
-use Rattle.aso_outline.specs.declared.draft.Draft.{Draft}
-use Rattle.aso_cellnames.specs.Names.{cell_names}
+-- A line says one thing, and on a state it comes to one thing.
+use Rattle.std.proofs.Common.{◌≡◌, ◌∙◌, ◌⊎◌, inl, inr, ℕ, ◌<◌, ◌≤◌, true, true≢false, List, take, sym, ap, subst, arith, ⊎_elim}
+use Rattle.std.proofs.lemmas.Bool.{cases_lt}
 use Rattle.aso_mdx.specs.declared.query.Query.{Query}
-use Rattle.aso_mdx.specs.Grammar.{SpellsQuery}
+use Rattle.aso_mdx.specs.Grammar.{IsQueryFault, QueryTokens, SpellsQuery}
 use Rattle.aso_mdx.proofs.Answered.{one_query}
-use Rattle.aso_spec.specs.Cells.{Cells, Key, add_at}
-use Rattle.aso_spec.specs.Grid.{label}
-use Rattle.aso_spec.specs.Named.{key_named}
 use Rattle.aso_script.specs.Script.{Addition, Line, Spells}
 use Rattle.aso_script.proofs.Exact.{spells_one}
-use Rattle.aso_query.specs.Answers.{IsGridOf}
+use Rattle.aso_query.specs.Texts.{refusal_text}
 use Rattle.aso_machine.specs.State.{State}
-use Rattle.aso_machine.specs.Lines.{Reading, Adds, Asks, Faulty, IsRead, query_text}
-use Rattle.aso_machine.specs.Machine.{Said, Refuses, Shows, Changes, Comes, Says, added, added_to, addition_refusal, changed, sum_at, unless_refused, values_of}
-use Rattle.aso_laws.proofs.Grids.{one_grid}
+use Rattle.aso_machine.specs.Lines.{Reading, Adds, Asks, Faulty, IsFaultyAt, IsLongestFront, IsQueryLine, IsRead, StopsAt, query_text}
+use Rattle.aso_machine.specs.Machine.{Said, Refuses, Shows, Changes, Comes, IsAnswer, Says, other_database, values_of}
+use Rattle.aso_machine.proofs.LineLemmas.{adds_no_query}
+use Rattle.aso_laws.proofs.Faults.{no_fault, one_place}
+use Rattle.aso_laws.proofs.Owns.{same_some, some_none}
+use Rattle.aso_laws.proofs.Queries.{no_grid_refused, one_grid, one_refusal}
 
--- ---- an addition is answered by no grid
+-- ---- where a text stops being that of a query
 
-abbrev is_grid : Said → Bool
-is_grid (Shows rows columns text) = true
-is_grid said = false
+fronts_once : (text : List ℕ) (n m : ℕ) → IsLongestFront text n → IsLongestFront text m → n ≡ m
+fronts_once text n m a b = ⊎_elim (λ (less : n < m). absurd (true≢false (sym b.utf8 ∙ a.longest m less b.within))) (λ (most : m ≤ n). by_other most (cases_lt m n)) (cases_lt n m)
+  where
+    by_other : m ≤ n → (m < n) ⊎ (n ≤ m) → n ≡ m
+    by_other most (inl less) = absurd (true≢false (sym a.utf8 ∙ b.longest n less a.within))
+    by_other most (inr least) = omega (arith, most, least)
 
-no_grid_if : (b : Bool) (text : List ℕ) (x : Said) → is_grid x ≡ false → is_grid (if b then Refuses text else x) ≡ false
-no_grid_if true text x h = refl
-no_grid_if false text x h = h
+-- what StopsAt says of its front
+abbrev IsHere : List ℕ → ℕ → ℕ → Type 0
+IsHere text n at = IsQueryFault (take n text) at ⊎ ((q : Query) × SpellsQuery (take n text) q × (at ≡ n))
 
-no_grid_unless : (r : Option (List ℕ)) (x : Said) → is_grid x ≡ false → is_grid (unless_refused r x) ≡ false
-no_grid_unless None x h = h
-no_grid_unless (Some text) x h = refl
+here_once : (text : List ℕ) (n at other : ℕ) → IsHere text n at → IsHere text n other → at ≡ other
+here_once text n at other (inl x) (inl y) = one_place true QueryTokens (take n text) at other x y
+here_once text n at other (inl x) (inr (q, spelled, is)) = absurd (no_fault true QueryTokens (take n text) q at spelled x)
+here_once text n at other (inr (q, spelled, is)) (inl y) = absurd (no_fault true QueryTokens (take n text) q other spelled y)
+here_once text n at other (inr (q, spelled, is)) (inr (r, spelled_too, is_too)) = is ∙ sym is_too
 
-no_grid_to : (o : Draft) (cells : Cells) (key : Key) (z : ℤ) → is_grid (added_to o cells key z) ≡ false
-no_grid_to o cells key z =
-    no_grid_if (nat_le (10 ^ 18) (unsigned_abs (sum_at cells key z))) (codes "210 amount range: " ++ label (cell_names o key) ++ codes ", " ++ value_text (Num (sum_at cells key z))) _
-    (no_grid_if (nat_lt 1000 (length (add_at key z cells))) (codes "213 too many cells: " ++ decimal (length (add_at key z cells))) (Changes (add_at key z cells)) refl)
-
-added_no_grid : (s : State) (a : Addition) → is_grid (added s a) ≡ false
-added_no_grid s a =
-    let key = key_named s.outline a.names in
-    let z = result_unwrap_or (amount_of a.amount) (pos 0) in
-    no_grid_unless (addition_refusal s.outline a) (changed s a)
-    (no_grid_if (s.layout == 2 ^ 64 - 1) (codes "215 sequence end") (added_to s.outline s.cells key z) (no_grid_to s.outline s.cells key z))
-
-no_grid_added : (s : State) (a : Addition) (rows columns : ℕ) (text : List ℕ) → Shows rows columns text ≡ added s a → ⊥
-no_grid_added s a rows columns text e = true≢false (ap is_grid e ∙ added_no_grid s a)
+stops_once : (text : List ℕ) (at other : ℕ) → StopsAt text at → StopsAt text other → at ≡ other
+stops_once text at other a b = here_once text a.n at other a.here (subst (λ (n : ℕ). IsHere text n other) (sym (fronts_once text a.n b.n a.front b.front)) b.here)
 
 -- ---- lines
 
--- the query that is answered by a grid
-pub record Asked (s : State) (line : Line) (rows columns : ℕ) (text : List ℕ) : Type 0 where
-  pub query : Query
-  pub spelled : SpellsQuery (query_text line.bytes) query
-  pub grid : IsGridOf s.outline (values_of s) query rows columns text
+faulty_once : (line : List ℕ) (at other : ℕ) → IsFaultyAt line at → IsFaultyAt line other → at ≡ other
+faulty_once line at other (inl (of, a)) (inl (of_too, b)) = stops_once (query_text line) at other a b
+faulty_once line at other (inl (of, a)) (inr (none, b)) = absurd (true≢false (sym of ∙ none))
+faulty_once line at other (inr (none, a)) (inl (of, b)) = absurd (true≢false (sym of ∙ none))
+faulty_once line at other (inr (none, a)) (inr (none_too, b)) = a ∙ sym b
 
-asked : (s : State) (line : Line) (rows columns : ℕ) (text : List ℕ) → Comes s line (Shows rows columns text) → Asked s line rows columns text
-asked s line rows columns text comes = by comes.reading comes.reads comes.says
-  where
-    by : (r : Reading) → IsRead line.bytes r → Says s line.at r (Shows rows columns text) → Asked s line rows columns text
-    by (Adds a) reads says = absurd (no_grid_added s a rows columns text says)
-    by (Asks q) reads says = record { query = q; spelled = reads.spelled; grid = says.1 }
-    by (Faulty at) reads says = absurd (cc says)
+no_query_added : (line : List ℕ) (a : Addition) (q : Query) → Spells line a → IsQueryLine line q → ⊥
+no_query_added line a q spells read = true≢false (sym read.of ∙ adds_no_query line a spells)
 
-pub one_grid_of_a_line : (s : State) (line : Line) (rows columns height width : ℕ) (text other : List ℕ) → Comes s line (Shows rows columns text) → Comes s line (Shows height width other) → (rows ≡ height) × (columns ≡ width) × (text ≡ other)
-one_grid_of_a_line s line rows columns height width text other a b =
-    let x = asked s line rows columns text a in
-    let y = asked s line height width other b in
-    let same : x.query ≡ y.query = one_query (query_text line.bytes) x.query y.query x.spelled y.spelled in
-    one_grid s.outline (values_of s) x.query rows columns height width text other x.grid (subst (λ (q : Query). IsGridOf s.outline (values_of s) q height width other) (sym same) y.grid)
+pub one_reading : (line : List ℕ) (r s : Reading) → IsRead line r → IsRead line s → r ≡ s
+one_reading line (Adds a) (Adds b) x y = ap Adds (spells_one line a b x y)
+one_reading line (Adds a) (Asks q) x y = absurd (no_query_added line a q x y)
+one_reading line (Adds a) (Faulty at) x (no_addition, (no_query, at_byte)) = absurd (no_addition a x)
+one_reading line (Asks q) (Adds a) x y = absurd (no_query_added line a q y x)
+one_reading line (Asks q) (Asks r) x y = ap Asks (one_query (query_text line) q r x.spelled y.spelled)
+one_reading line (Asks q) (Faulty at) x (no_addition, (no_query, at_byte)) = absurd (no_query q x)
+one_reading line (Faulty at) (Adds a) (no_addition, (no_query, at_byte)) y = absurd (no_addition a y)
+one_reading line (Faulty at) (Asks q) (no_addition, (no_query, at_byte)) y = absurd (no_query q y)
+one_reading line (Faulty at) (Faulty other) (no_addition, (no_query, at_byte)) (none, (none_too, at_other)) = ap Faulty (faulty_once line at other at_byte at_other)
 
--- the addition that is a commit
-record Added (s : State) (line : Line) (cells : Cells) : Type 0 where
-  addition : Addition
-  spelled : Spells line.bytes addition
-  is : Changes cells ≡ added s addition
+-- ---- what a line comes to
 
-commits : (s : State) (line : Line) (cells : Cells) → Comes s line (Changes cells) → Added s line cells
-commits s line cells comes = by comes.reading comes.reads comes.says
-  where
-    by : (r : Reading) → IsRead line.bytes r → Says s line.at r (Changes cells) → Added s line cells
-    by (Adds a) reads says = record { addition = a; spelled = reads; is = says }
-    by (Asks q) reads says = absurd says
-    by (Faulty at) reads says = absurd (cc says)
+module _ (s : State) (q : Query) where
+  refused_once : (text more : List ℕ) → IsAnswer s q (Refuses text) → IsAnswer s q (Refuses more) → text ≡ more
+  refused_once text more (inl a) (inl b) = same_some text more (sym a ∙ b)
+  refused_once text more (inl a) (inr (same, (r, refused, is))) = some_none text (other_database s.outline q.app q.db) a same
+  refused_once text more (inr (same, (r, refused, is))) (inl b) = some_none more (other_database s.outline q.app q.db) b same
+  refused_once text more (inr (same, (r, refused, is))) (inr (same_too, (r_too, refused_too, is_too))) =
+      is ∙ (ap refusal_text (one_refusal s.outline q (values_of s) r r_too refused refused_too) ∙ sym is_too)
 
-same_cells : (a b : Cells) → Changes a ≡ Changes b → a ≡ b
-same_cells a b e = cc e
+  no_grid : (text : List ℕ) (rows columns : ℕ) (grid : List ℕ) → IsAnswer s q (Refuses text) → IsAnswer s q (Shows rows columns grid) → ⊥
+  no_grid text rows columns grid (inl a) (same, b) = some_none text (other_database s.outline q.app q.db) a same
+  no_grid text rows columns grid (inr (same, (r, refused, is))) (same_too, b) = no_grid_refused s.outline q (values_of s) r rows columns grid refused b
 
-pub one_commit_of_a_line : (s : State) (line : Line) (cells others : Cells) → Comes s line (Changes cells) → Comes s line (Changes others) → cells ≡ others
-one_commit_of_a_line s line cells others a b =
-    let x = commits s line cells a in
-    let y = commits s line others b in
-    let same : x.addition ≡ y.addition = spells_one line.bytes x.addition y.addition x.spelled y.spelled in
-    same_cells cells others (x.is ∙ ap (added s) same ∙ sym y.is)
+  shown_once : (rows columns height width : ℕ) (grid more : List ℕ) → (rows ≡ height) × (columns ≡ width) × (grid ≡ more) → Shows rows columns grid ≡ Shows height width more
+  shown_once rows columns height width grid more (high, wide, lines) =
+      ap (λ (n : ℕ). Shows n columns grid) high ∙ (ap (λ (n : ℕ). Shows height n grid) wide ∙ ap (Shows height width) lines)
+
+  one_answer : (a b : Said) → IsAnswer s q a → IsAnswer s q b → a ≡ b
+  one_answer (Refuses text) (Refuses more) x y = ap Refuses (refused_once text more x y)
+  one_answer (Refuses text) (Shows rows columns grid) x y = absurd (no_grid text rows columns grid x y)
+  one_answer (Refuses text) (Changes cells) x y = absurd y
+  one_answer (Shows rows columns grid) (Refuses text) x y = absurd (no_grid text rows columns grid y x)
+  one_answer (Shows rows columns grid) (Shows height width more) (same, x) (same_too, y) =
+      shown_once rows columns height width grid more (one_grid s.outline q (values_of s) rows columns height width grid more x y)
+  one_answer (Shows rows columns grid) (Changes cells) x y = absurd y
+  one_answer (Changes cells) b x y = absurd x
+
+said_once : (s : State) (at : ℕ) (r : Reading) (a b : Said) → Says s at r a → Says s at r b → a ≡ b
+said_once s at (Adds addition) a b x y = x ∙ sym y
+said_once s at (Asks q) a b x y = one_answer s q a b x y
+said_once s at (Faulty byte) a b x y = x ∙ sym y
+
+pub one_outcome : (s : State) (line : Line) (a b : Said) → Comes s line a → Comes s line b → a ≡ b
+one_outcome s line a b x y =
+    let same : x.reading ≡ y.reading = one_reading line.bytes x.reading y.reading x.reads y.reads in
+    said_once s line.at x.reading a b x.says (subst (λ (r : Reading). Says s line.at r b) (sym same) y.says)

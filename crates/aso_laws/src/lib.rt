@@ -1,6 +1,6 @@
-//! Laws that no code needs: a grid, a commit or a reply is the only one of its query, line or sheet.
+//! Laws that no code needs: what a query, a line and a sheet come to, they come to alone.
 #![tactic(auto)]
 
 mod once;
 
-pub use once::{one_commit_of_a_line, one_grid, one_grid_of_a_line, one_reply};
+pub use once::{one_answer_of_a_query, one_answer_of_a_sheet, one_outcome_of_a_line};
