@@ -25,6 +25,11 @@ const GREATEST: &str = "Jan NY Sales=99999999999999.9999";
 /// Cells, a query, and its grid, a bar for a tab.
 const GRIDS: &[(&str, &str, &str)] = &[
     (
+        "Jan NY Sales=8,Jan NY Cost=2",
+        "with member [Measures].[X] as '[Margin] / ([Sales],[Total])' select {[Margin],[X]} on columns from Sample.Basic where ([NY])",
+        "1 2:|Margin|X\n|6.0000|0.7500\n",
+    ),
+    (
         TWO,
         "with member [Measures].[X] as '[Margin] / ([Sales],[Total])' select {[Margin],[X]} on columns from S.B where ([NY])",
         "1 2:|Margin|X\n|6.0000|0.5000\n",
