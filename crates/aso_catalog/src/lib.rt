@@ -16,6 +16,3 @@ pub use reading::decode;
 pub use record::{LeafCell, Record};
 pub use session::publish_all;
 pub use writing::encode;
-
-#[cfg(test)]
-mod tests;

@@ -10,6 +10,3 @@ mod text;
 
 pub use evaluating::eval;
 pub use refusal::{EvalFault, SheetRefusal};
-
-#[cfg(test)]
-mod tests;

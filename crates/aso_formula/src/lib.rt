@@ -10,6 +10,3 @@ mod text;
 pub use fault::FormulaFault;
 pub use printing::print;
 pub use text::{parse, read};
-
-#[cfg(test)]
-mod tests;

@@ -12,6 +12,3 @@ mod views;
 pub use aso_outline::View;
 pub use layout::Layout;
 pub use views::{is_coarser, view_of};
-
-#[cfg(test)]
-mod tests;

@@ -15,6 +15,3 @@ pub use fitting::fits;
 pub use judging::judge;
 pub use reading::{Reading, read_line};
 pub use verdict::Verdict;
-
-#[cfg(test)]
-mod tests;

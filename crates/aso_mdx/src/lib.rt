@@ -17,6 +17,3 @@ pub use query::{Axis, Own, Query, SetText};
 pub use query_text::read;
 pub use single::spells_one_query;
 pub use text::read_set;
-
-#[cfg(test)]
-mod tests;

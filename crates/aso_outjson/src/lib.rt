@@ -21,6 +21,3 @@ mod written;
 pub use fault::JsonFault;
 pub use printing::print;
 pub use reading::read;
-
-#[cfg(test)]
-mod tests;

@@ -17,6 +17,3 @@ pub use aso_num::NoMemory;
 pub use fault::RulesFault;
 pub use reading::read;
 pub use rules::{Column, Rules};
-
-#[cfg(test)]
-mod tests;

@@ -1,9 +1,9 @@
 // Outlines as JSON texts, in which ' stands for ".
 use aso_outjson::read;
 use aso_outline::Outline;
+use aso_trials_cases::CaseFault;
 use std::alloc::{AllocError, Global};
 use std::fmt::Write;
-use std::test::Fail;
 
 /// The base dimensions of the Basic outline. With Size it has 23 members: Year is 0, with Jan and Feb behind it;
 /// Market is 3, its trees are Total at 4 with East, NY, MA and CA behind it, Big at 9 and Sum at 12, each with NY and CA shared;
@@ -33,16 +33,16 @@ fn json(alloc: Global, dims: &str, attrs: &str) -> Result<String, AllocError> {
 }
 
 /// The outline of these dimensions and attribute dimensions.
-pub fn outline(alloc: Global, dims: &str, attrs: &str) -> Result<Outline, Fail> {
+pub fn outline(alloc: Global, dims: &str, attrs: &str) -> Result<Outline, CaseFault> {
     let text = json(alloc, dims, attrs)?;
     match read(alloc, text.as_bytes()) {
         Ok(outline) => Ok(outline),
-        Err(_fault) => Err(Fail::from("refused")),
+        Err(_fault) => Err(CaseFault::Value),
     }
 }
 
 /// The Basic outline.
-pub fn basic(alloc: Global) -> Result<Outline, Fail> {
+pub fn basic(alloc: Global) -> Result<Outline, CaseFault> {
     outline(alloc, BASIC, SIZE)
 }
 

@@ -2,8 +2,8 @@
 use aso_formula::read;
 use aso_num::Text;
 use aso_outline::{Extra, ExtraMember, Outline};
+use aso_trials_cases::CaseFault;
 use std::alloc::Global;
-use std::test::Fail;
 
 /// Takes a member with this name, in this dimension, with this formula.
 pub fn extend(
@@ -13,12 +13,12 @@ pub fn extend(
     name: &str,
     dim: u32,
     text: &str,
-) -> Result<(), Fail> {
+) -> Result<(), CaseFault> {
     if dim >= outline.dims() {
-        return Err(Fail::from("no such dimension"));
+        return Err(CaseFault::Value);
     }
     let Ok(formula) = read(alloc, outline, dim, text) else {
-        return Err(Fail::from("no formula"));
+        return Err(CaseFault::Value);
     };
     let member = ExtraMember {
         name: Text::of(String::from_str(alloc, name)?),
@@ -28,6 +28,6 @@ pub fn extend(
     };
     match outline.extend(alloc, extra, member) {
         Ok(()) => Ok(()),
-        Err(_fault) => Err(Fail::from("not taken")),
+        Err(_fault) => Err(CaseFault::Value),
     }
 }

@@ -14,6 +14,3 @@ pub use cutting::{Line, cut_lines};
 pub use laws::spells_one_addition;
 pub use name::{Name, WrittenAmount};
 pub use reading::read_addition;
-
-#[cfg(test)]
-mod tests;

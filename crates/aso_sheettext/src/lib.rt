@@ -13,6 +13,3 @@ pub use fault::SheetFault;
 pub use outline::read_outline;
 pub use sheet::read_sheet;
 pub use text::{CellText, MemberText, OutlineText, SheetText};
-
-#[cfg(test)]
-mod tests;

@@ -23,6 +23,3 @@ pub use reopening::open_store;
 pub use replying::error_line;
 pub use running::{run_lines, run_text};
 pub use store::{LONGEST_TEXT, Store, recover};
-
-#[cfg(test)]
-mod tests;

@@ -13,6 +13,3 @@ pub use marks::{after_comma, after_open, close};
 pub use number::parse_number;
 pub use stop::Stop;
 pub use token::{Mark, Piece, Placed, Token};
-
-#[cfg(test)]
-mod tests;

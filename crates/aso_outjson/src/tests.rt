@@ -1,3 +1,0 @@
-mod basic;
-mod faults;
-mod told;
